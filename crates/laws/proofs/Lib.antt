@@ -1,0 +1,4 @@
+pub mod Cases
+pub mod Symbols
+pub mod Parts
+pub mod RoundTrip

@@ -1,0 +1,206 @@
+-- One tick of the display, and a run of ticks. (Document 01, "One tick of the display"; refusals 10 to 13 of "Refusal numbers")
+-- What is to begin in a tick is asked of a rule: a load list is one, and so is each plan. The display is the same for all.
+use Prim.Native.Nat.{ℕ, zero, suc, _+_, _-_}
+use mathlib.Core.Bool.{Bool, true, false, cond, not, _||_}
+use mathlib.Core.List.{List, [], _∷_, _++_}
+use lib.ListN.{getD, drop, set}
+use lib.Dec.{eqb, ltb}
+use Rattle.rules.specs.declared.Begun.{Begun}
+use Rattle.rules.specs.declared.Begun.the-variants.{Load, NoLoad}
+use Rattle.rules.specs.declared.Loading.{Loading}
+use Rattle.rules.specs.declared.Loading.the-variants.{Idle, Under}
+use Rattle.rules.specs.declared.Cause.{Cause}
+use Rattle.rules.specs.declared.Cause.the-variants.{Awaited, Another, Nothing}
+use Rattle.rules.specs.declared.Happening.{Happening}
+use Rattle.rules.specs.declared.Happening.the-variants.{Draw, Wait}
+use Rattle.rules.specs.declared.TickRecord.{TickRecord}
+use Rattle.rules.specs.Basics.{place, stands}
+use Rattle.rules.specs.Job.{Job, free}
+
+-- A draw that was made: its tick and the slot that it was drawn from.
+pub data Drawn : Type 0 where
+  drawn : (tick slot : ℕ) → Drawn
+
+-- A load that was begun: its tick, the next draw number at that tick, its slot and its symbol.
+pub data Loaded : Type 0 where
+  loaded : (tick draw slot symbol : ℕ) → Loaded
+
+-- The display between two ticks.
+--     tick      the ticks that have passed, so the number of the tick that comes; at the end of a run it is elapsed
+--     next      the next draw number
+--     rest      the draws that remain
+--     slots     what each slot holds: a symbol, or `free` for nothing
+--     loading   the load under way
+--     waits     the ticks that were waits
+--     loads     the loads begun
+--     made      each draw made, in order
+--     begun     each load begun, in order
+pub record State : Type 0 where
+  pub tick : ℕ
+  pub next : ℕ
+  pub rest : List ℕ
+  pub slots : List ℕ
+  pub loading : Loading
+  pub waits : ℕ
+  pub loads : ℕ
+  pub made : List Drawn
+  pub begun : List Loaded
+
+-- Time starts at tick 0, with the next draw number 0 and the starting symbols in the slots.
+abbrev pub start : Job → State
+start job =
+    record {
+      tick = 0;
+      next = 0;
+      rest = job .draws;
+      slots = job .starting;
+      loading = Idle;
+      waits = 0;
+      loads = 0;
+      made = [];
+      begun = [];
+    }
+
+-- A run is still going, or it was refused with a number and a detail.
+pub data Run : Type 0 where
+  going : State → Run
+  refused : (number detail : ℕ) → Run
+
+-- A rule for what begins: what it asks for in a tick, and whether, at a wait with no load under way, it will ask for nothing any more.
+pub record Rule : Type 0 where
+  pub asks : State → Begun
+  pub done : State → Bool
+
+-- Step 1. A load begun F ticks ago puts its symbol into its slot; any other load under way is a tick nearer to its end.
+abbrev pub landedSlots : Loading → List ℕ → List ℕ
+landedSlots Idle slots = slots
+landedSlots (Under zero q x) slots = set slots q x
+landedSlots (Under (suc left) q x) slots = slots
+
+abbrev pub landedLoading : Loading → Loading
+landedLoading Idle = Idle
+landedLoading (Under zero q x) = Idle
+landedLoading (Under (suc left) q x) = Under left q x
+
+abbrev pub land : State → State
+land s =
+    record {
+      tick = s .tick;
+      next = s .next;
+      rest = s .rest;
+      slots = landedSlots (s .loading) (s .slots);
+      loading = landedLoading (s .loading);
+      waits = s .waits;
+      loads = s .loads;
+      made = s .made;
+      begun = s .begun;
+    }
+
+-- Step 2. A load begins: what its slot held is gone at once, and the slot holds nothing until the load ends, F ticks from now.
+abbrev pub begin : Job → ℕ → ℕ → State → State
+begin job q x s =
+    record {
+      tick = s .tick;
+      next = s .next;
+      rest = s .rest;
+      slots = set (s .slots) q free;
+      loading = Under (job .time - 1) q x;
+      waits = s .waits;
+      loads = s .loads + 1;
+      made = s .made;
+      begun = s .begun ++ (loaded (s .tick) (s .next) q x ∷ []);
+    }
+
+abbrev pub idle : Loading → Bool
+idle Idle = true
+idle (Under left q x) = false
+
+-- Which slots an event may name: those below k. (Refusal 11)
+abbrev pub loadable : Job → ℕ → Bool
+loadable job q = ltb q (job .slots)
+
+-- A load is refused while another is under way (10), in a slot that may not be named (11), and of a symbol that some slot
+-- holds or that is no symbol (12), tested in this order. The detail is the number of the event, counted from 0.
+unfoldable pub beginning : Job → Begun → State → Run
+beginning job NoLoad s = going s
+beginning job (Load q x) s =
+    cond (not (idle (s .loading))) (refused 10 (s .loads))
+    (cond (not (loadable job q)) (refused 11 (s .loads))
+    (cond (eqb x free || stands x (s .slots)) (refused 12 (s .loads))
+    (going (begin job q x s))))
+
+-- Step 3. The symbol of the next draw, and what happens: it is drawn from the first slot that holds it, or the tick is a wait.
+abbrev pub awaited : State → ℕ
+awaited s = getD (s .rest) 0 0
+
+abbrev pub causeOf : Loading → ℕ → Cause
+causeOf Idle x = Nothing
+causeOf (Under left q y) x = cond (eqb x y) Awaited Another
+
+abbrev pub happeningOf : State → Happening
+happeningOf s =
+    cond (stands (awaited s) (s .slots)) (Draw (place (awaited s) (s .slots))) (Wait (causeOf (s .loading) (awaited s)))
+
+abbrev pub draw : ℕ → State → State
+draw q s =
+    record {
+      tick = s .tick + 1;
+      next = s .next + 1;
+      rest = drop 1 (s .rest);
+      slots = s .slots;
+      loading = s .loading;
+      waits = s .waits;
+      loads = s .loads;
+      made = s .made ++ (drawn (s .tick) q ∷ []);
+      begun = s .begun;
+    }
+
+abbrev pub wait : State → State
+wait s =
+    record {
+      tick = s .tick + 1;
+      next = s .next;
+      rest = s .rest;
+      slots = s .slots;
+      loading = s .loading;
+      waits = s .waits + 1;
+      loads = s .loads;
+      made = s .made;
+      begun = s .begun;
+    }
+
+-- A wait with no load under way never ends where the rule asks for nothing any more. (Refusal 13: no event is left; the detail is the draw)
+unfoldable pub happened : Happening → Bool → State → Run
+happened (Draw q) done s = going (draw q s)
+happened (Wait Awaited) done s = going (wait s)
+happened (Wait Another) done s = going (wait s)
+happened (Wait Nothing) done s = cond done (refused 13 (s .next)) (going (wait s))
+
+-- A run that was refused stays so.
+abbrev pub then : Run → (State → Run) → Run
+then (going s) f = f s
+then (refused number detail) f = refused number detail
+
+-- A tick on record: the load begun in it, and what happened once it had begun. So a load begun in this tick counts as under way.
+abbrev pub recordOf : Begun → State → TickRecord
+recordOf begun s = record { begun = begun; happening = happeningOf s }
+
+-- What is to begin is asked once a load that ends in this tick is in its slot, so the next load may begin in the same tick.
+abbrev pub asked : Rule → State → Begun
+asked rule s = rule .asks (land s)
+
+-- One tick: the three steps in this order.
+unfoldable pub tick : Job → Rule → State → Run
+tick job rule s =
+    then (beginning job (asked rule s) (land s)) (λ b. happened (recordOf (asked rule s) b .happening) (rule .done b) b)
+
+-- So many ticks of a run. Once no draw remains the display stands still.
+abbrev pub finished : List ℕ → Bool
+finished [] = true
+finished (x ∷ rest) = false
+
+unfoldable pub run : Job → Rule → ℕ → State → Run
+run job rule zero s = going s
+run job rule (suc t) s =
+    let further : Run = then (tick job rule s) (run job rule t) in
+    cond (finished (s .rest)) (going s) further

@@ -1,0 +1,7 @@
+pub mod Basics
+pub mod Job
+pub mod LoadList
+pub mod Display
+pub mod Plans
+pub mod Refusals
+pub mod Worked

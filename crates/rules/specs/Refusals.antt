@@ -1,0 +1,184 @@
+-- The refusals, their order, and what a plan and a check answer and leave in lent memory. (Document 01, "Refusal numbers")
+use Prim.Native.Nat.{ℕ, zero, suc, _+_, _*_, _-_}
+use mathlib.Core.Bool.{Bool, true, false, cond, not, _&&_, _||_}
+use mathlib.Core.List.{List, [], _∷_, _++_, map}
+use lib.ListN.{length, getD, drop}
+use lib.Dec.{eqb, ltb, leb}
+use Rattle.rules.specs.declared.Answer.{Answer}
+use Rattle.rules.specs.declared.Begun.{Begun}
+use Rattle.rules.specs.declared.Begun.the-variants.{Load, NoLoad}
+use Rattle.rules.specs.declared.JobReading.{JobReading}
+use Rattle.rules.specs.declared.JobReading.the-variants.{Taken, Refused}
+use Rattle.rules.specs.declared.ListReading.{ListReading}
+use Rattle.rules.specs.declared.ListReading.the-variants.{Listed, Unreadable}
+use Rattle.rules.specs.declared.Shape.{Shape}
+use Rattle.rules.specs.Basics.{stands, number32}
+use Rattle.rules.specs.Job.{Job, free, most-slots, most-time, most-draws, shapeOf, startingOf, drawsOf, jobOf}
+use Rattle.rules.specs.LoadList.{Event, event, most-events, last-tick, head-size, event-size, countOf, eventsOf, listBytes}
+use Rattle.rules.specs.Display.{State, Run, Rule, Drawn, drawn, Loaded, loaded, going, refused, then, start, finished, run}
+use Rattle.rules.specs.Plans.{last-plan, ruleOf, runPlan, begunIn}
+
+-- ---- A job: refusals 1 to 5
+
+-- 1. Under ten bytes, or a length that is not the number of bytes after it.
+abbrev pub badJobLength : List ℕ → Bool
+badJobLength job = ltb (length job) 10 || not (eqb (number32 job 0) (length job - 4))
+
+-- 2. A version other than 1.
+abbrev pub badJobVersion : List ℕ → Bool
+badJobVersion job = not (eqb (getD job 4 0) 1)
+
+-- 3. Slots, load time or draws outside their limits.
+abbrev pub badLimits : Shape → Bool
+badLimits shape =
+    ltb (shape .slots) 1
+    || ltb most-slots (shape .slots)
+    || ltb (shape .time) 1
+    || ltb most-time (shape .time)
+    || ltb most-draws (shape .draws)
+
+-- 4. A length other than 6 + 2k + 2n.
+abbrev pub badJobSize : List ℕ → Bool
+badJobSize job = not (eqb (number32 job 0) (6 + 2 * shapeOf job .slots + 2 * shapeOf job .draws))
+
+-- 5. A symbol in two starting slots, or the mark of a free slot among the draws. The mark itself may stand in several slots.
+unfoldable pub doubled : List ℕ → Bool
+doubled [] = false
+doubled (x ∷ l) = not (eqb x free) && stands x l || doubled l
+
+abbrev pub badSymbols : List ℕ → List ℕ → Bool
+badSymbols starting draws = doubled starting || stands free draws
+
+-- A job is read in this order.
+abbrev pub readJob : List ℕ → JobReading
+readJob job =
+    cond (badJobLength job) (Refused 1)
+    (cond (badJobVersion job) (Refused 2)
+    (cond (badLimits (shapeOf job)) (Refused 3)
+    (cond (badJobSize job) (Refused 4)
+    (cond (badSymbols (startingOf job) (drawsOf job)) (Refused 5)
+    (Taken (shapeOf job))))))
+
+-- Document 01's number for what reading a job found.
+abbrev pub jobNumber : JobReading → ℕ
+jobNumber (Taken shape) = 0
+jobNumber (Refused number) = number
+
+-- ---- A load list: refusals 8 and 9
+
+-- 8. Under seven bytes, a length that is not the number of bytes after it, a version other than 1, too many events, or a
+-- length other than 3 + 7m.
+abbrev pub badList : List ℕ → Bool
+badList list =
+    ltb (length list) head-size
+    || not (eqb (number32 list 0) (length list - 4))
+    || not (eqb (getD list 4 0) 1)
+    || ltb most-events (countOf list)
+    || not (eqb (number32 list 0) (3 + event-size * countOf list))
+
+abbrev pub readList : List ℕ → ListReading
+readList list = cond (badList list) Unreadable (Listed (countOf list))
+
+abbrev pub listNumber : ListReading → ℕ
+listNumber (Listed m) = 0
+listNumber Unreadable = 8
+
+-- 9. The first event whose tick is over the limit or not above the tick before it, or the number of events where there is none.
+-- `least` is the lowest tick that the event may have.
+unfoldable pub unruly : ℕ → List Event → ℕ
+unruly least [] = 0
+unruly least (event t q x ∷ l) = cond (ltb last-tick t || ltb t least) 0 (suc (unruly (t + 1) l))
+
+-- ---- A check of a list: refusals 7 to 14
+
+-- A list as a rule: its next event begins when its tick has come.
+unfoldable pub due : List Event → ℕ → Begun
+due [] now = NoLoad
+due (event t q x ∷ later) now = cond (eqb t now) (Load q x) NoLoad
+
+abbrev pub follow : List Event → Rule
+follow events = record { asks = λ s. due (drop (s .loads) events) (s .tick); done = λ s. leb (length events) (s .loads) }
+
+-- The ticks that a run along a list can take: after the last event only one load and the draws are left.
+abbrev pub patience : Job → ℕ
+patience job = last-tick + job .time + length (job .draws) + 1
+
+-- 14. All draws are done and an event is left; the detail is the first one left.
+abbrev pub closing : List Event → State → Run
+closing events s = cond (ltb (s .loads) (length events)) (refused 14 (s .loads)) (going s)
+
+abbrev pub follows : Job → List Event → Run
+follows job events = then (run job (follow events) (patience job) (start job)) (closing events)
+
+abbrev pub inOrder : Job → List Event → Run
+inOrder job events =
+    cond (ltb (unruly 0 events) (length events)) (refused 9 (unruly 0 events)) (follows job events)
+
+-- 7. A check needs a place for each draw in both lent buffers.
+abbrev pub shortCheck : List ℕ → ℕ → ℕ → Bool
+shortCheck job ticks slots = ltb ticks (length (drawsOf job)) || ltb slots (length (drawsOf job))
+
+-- The order for a check: 1 to 5, then 8, 7, 9 over the whole list, then 10 to 14 as time meets them.
+-- It goes by the bytes of the job and the list, and by the places lent for ticks and for slots.
+unfoldable pub checked : List ℕ → List ℕ → ℕ → ℕ → Run
+checked job list ticks slots =
+    cond (not (eqb (jobNumber (readJob job)) 0)) (refused (jobNumber (readJob job)) 0)
+    (cond (badList list) (refused 8 0)
+    (cond (shortCheck job ticks slots) (refused 7 0)
+    (inOrder (jobOf job) (eventsOf list))))
+
+-- ---- A plan: refusals 6, 7 and 15
+
+-- 7. A plan needs room for a head and an event to each draw.
+abbrev pub shortPlan : List ℕ → ℕ → Bool
+shortPlan job room = ltb room (head-size + event-size * length (drawsOf job))
+
+-- 15. Elapsed would pass the last tick: the plan is not done by then, or it would wait for ever.
+abbrev pub inTime : Run → Run
+inTime (going s) = cond (finished (s .rest)) (going s) (refused 15 0)
+inTime (refused number detail) = refused 15 0
+
+-- The order for a plan: 1 to 5, then 6, 7, 15. It goes by the bytes of the job, the plan's number and the room lent.
+unfoldable pub planned : List ℕ → ℕ → ℕ → Run
+planned job plan room =
+    cond (not (eqb (jobNumber (readJob job)) 0)) (refused (jobNumber (readJob job)) 0)
+    (cond (ltb last-plan plan) (refused 6 0)
+    (cond (shortPlan job room) (refused 7 0)
+    (inTime (runPlan (jobOf job) (ruleOf (jobOf job) plan)))))
+
+-- ---- The answer and lent memory
+
+-- An accepted run answers number 0, detail 0 and its counts; a refused one its number and detail, and no counts.
+abbrev pub answerOf : Run → Answer
+answerOf (going s) = record { number = 0; detail = 0; elapsed = s .tick; waits = s .waits; loads = s .loads }
+answerOf (refused number detail) = record { number = number; detail = detail; elapsed = 0; waits = 0; loads = 0 }
+
+-- What lent memory holds later: what was written stands at its front, and all behind it is as it was.
+abbrev pub lent : List ℕ → List ℕ → List ℕ
+lent written before = written ++ drop (length written) before
+
+-- The draws of a run that was not refused; of a refused one there are none, so nothing is written.
+abbrev pub drawsIn : Run → List Drawn
+drawsIn (going s) = s .made
+drawsIn (refused number detail) = []
+
+abbrev pub tickOf : Drawn → ℕ
+tickOf (drawn t q) = t
+
+abbrev pub slotOf : Drawn → ℕ
+slotOf (drawn t q) = q
+
+-- A check writes the tick of each draw into one buffer and its slot into the other.
+abbrev pub ticksOf : Run → List ℕ
+ticksOf r = map tickOf (drawsIn r)
+
+abbrev pub slotsOf : Run → List ℕ
+slotsOf r = map slotOf (drawsIn r)
+
+-- A plan writes its list into the room from the first byte on.
+abbrev pub eventOf : Loaded → Event
+eventOf (loaded t d q x) = event t q x
+
+abbrev pub writtenBy : Run → List ℕ
+writtenBy (going s) = listBytes (map eventOf (s .begun))
+writtenBy (refused number detail) = []

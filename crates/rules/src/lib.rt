@@ -1,0 +1,67 @@
+// The words that the rules and the code share: what reading finds, what a tick brings, what a call answers.
+// Types only. What their values mean stands in specs/, a file to each section of document 01.
+
+// The size of a job: its slots k, its load time F in ticks and its draws n.
+pub struct Shape {
+    pub slots: u8,
+    pub time: u16,
+    pub draws: u16,
+}
+
+// What reading a job finds: its shape, or the number of its one refusal.
+pub enum JobReading {
+    Taken(Shape),
+    Refused(u32),
+}
+
+// What reading the head of a load list finds: the number of its events, or that it is no list.
+pub enum ListReading {
+    Listed(u16),
+    Unreadable,
+}
+
+// What reading an event finds in the part of a list that begins at it: the event, or too few bytes for one.
+pub enum EventReading {
+    Event { tick: u32, slot: u8, symbol: u16 },
+    Short,
+}
+
+// The load that begins in a tick, if one does.
+pub enum Begun {
+    Load { slot: u8, symbol: u16 },
+    NoLoad,
+}
+
+// The loader: idle, or at work on a load. `left` counts the ticks that pass before the one in which the load ends.
+pub enum Loading {
+    Idle,
+    Under { left: u16, slot: u8, symbol: u16 },
+}
+
+// Why a tick is a wait: the awaited symbol is being loaded, another symbol is, or nothing is.
+pub enum Cause {
+    Awaited,
+    Another,
+    Nothing,
+}
+
+// What happens in a tick: a draw from a slot, or a wait with its cause.
+pub enum Happening {
+    Draw { slot: u8 },
+    Wait(Cause),
+}
+
+// A tick on record: the load begun in it, beside what happened.
+pub struct TickRecord {
+    pub begun: Begun,
+    pub happening: Happening,
+}
+
+// What a plan or a check answers: number 0 and the model's counts, or a refusal's number and detail and no counts.
+pub struct Answer {
+    pub number: u32,
+    pub detail: u32,
+    pub elapsed: u32,
+    pub waits: u32,
+    pub loads: u32,
+}

@@ -1,0 +1,24 @@
+-- `bad_length` meets its contract: each answer is the test of refusal 1.
+use borrow.Author.Needs.{needs}
+use borrow.Author.Tests.{lt-ltb, le-ltb}
+use Rattle.sheet.proofs.job.bad_length.Statement.{statement}
+use Rattle.sheet.proofs.job.bad_length.Tie as tie
+
+returns : tie.Need-returns
+returns c = simp (lt-ltb _ _ (c .if1 .taken))
+
+number32-at-requires : tie.Need-number32-at-requires
+number32-at-requires c κs = search needs
+
+cast-result : tie.Need-cast-result
+cast-result c = search needs
+
+sub-result : tie.Need-sub-result
+sub-result c = search needs
+
+returns-2 : tie.Need-returns-2
+returns-2 c = simp (le-ltb _ _ (c .before .if1 .left), c .number32-at .ensures)
+
+pub bad-length-spec : {M : Type 1} → statement M
+bad-length-spec =
+    tie.close (tie.spec returns number32-at-requires cast-result sub-result returns-2)

@@ -1,0 +1,22 @@
+-- `bad_limits` meets its contract: the tests are those of refusal 3, in its order.
+use borrow.Author.Tests.{lt-ltb, le-ltb}
+use Rattle.sheet.proofs.job.bad_limits.Statement.{statement}
+use Rattle.sheet.proofs.job.bad_limits.Tie as tie
+
+returns : tie.Need-returns
+returns c = simp (lt-ltb _ _ (c .if1 .taken))
+
+returns-2 : tie.Need-returns-2
+returns-2 c = simp (le-ltb _ _ (c .before .before .if1 .left), lt-ltb _ _ (c .if2 .taken))
+
+returns-3 : tie.Need-returns-3
+returns-3 c = simp (le-ltb _ _ (c .before .before .before .before .if1 .left), le-ltb _ _ (c .before .before .if2 .left), lt-ltb _ _ (c .if3 .taken))
+
+returns-4 : tie.Need-returns-4
+returns-4 c = simp (le-ltb _ _ (c .before .before .before .before .before .before .if1 .left), le-ltb _ _ (c .before .before .before .before .if2 .left), le-ltb _ _ (c .before .before .if3 .left), lt-ltb _ _ (c .if4 .taken))
+
+returns-5 : tie.Need-returns-5
+returns-5 c = simp (le-ltb _ _ (c .before .before .before .before .before .before .before .if1 .left), le-ltb _ _ (c .before .before .before .before .before .if2 .left), le-ltb _ _ (c .before .before .before .if3 .left), le-ltb _ _ (c .before .if4 .left))
+
+pub bad-limits-spec : {M : Type 1} → statement M
+bad-limits-spec = tie.close (tie.spec returns returns-2 returns-3 returns-4 returns-5)

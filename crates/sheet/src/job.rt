@@ -1,0 +1,116 @@
+// Reading a job: its shape or its one refusal, and its symbols by place.
+use crate::number::byte_at;
+use crate::number::number16_at;
+use crate::number::number32_at;
+use crate::row::FREE;
+use crate::row::doubled_in;
+use crate::row::stands_in;
+use rules::JobReading;
+use rules::Shape;
+ghost use mathlib.Core.Path.{_≡_};
+ghost use Prim.Native.Nat.{_+_, _*_};
+ghost use Rattle.rules.specs.Basics.{number16};
+ghost use lib.ListN.{drop};
+ghost use Rattle.rules.specs.Job.{shapeOf, symbols, starting-at, draws-at};
+ghost use Rattle.rules.specs.Refusals.{readJob, badJobLength, badJobVersion, badLimits, badJobSize, badSymbols};
+
+fn shape_of(job: &[u8]) -> Shape
+    ensures { λ r. ⌜ r ≡ shapeOf (now (job .entry)) ⌝ }
+{
+    Shape {
+        slots: byte_at(job, 5),
+        time: number16_at(job, 6),
+        draws: number16_at(job, 8),
+    }
+}
+
+// 1. Under ten bytes, or a length that is not the bytes after it.
+fn bad_length(job: &[u8]) -> bool
+    ensures { λ r. ⌜ r ≡ badJobLength (now (job .entry)) ⌝ }
+{
+    if job.len() < 10 {
+        return true;
+    }
+    number32_at(job, 0) as usize != job.len() - 4
+}
+
+// 2. A version other than 1.
+fn bad_version(job: &[u8]) -> bool
+    ensures { λ r. ⌜ r ≡ badJobVersion (now (job .entry)) ⌝ }
+{
+    byte_at(job, 4) != 1
+}
+
+// 3. Slots, load time or draws outside their limits.
+fn bad_limits(shape: Shape) -> bool
+    ensures { λ r. ⌜ r ≡ badLimits shape ⌝ }
+{
+    if shape.slots < 1 {
+        return true;
+    }
+    if 64 < shape.slots {
+        return true;
+    }
+    if shape.time < 1 {
+        return true;
+    }
+    if 1000 < shape.time {
+        return true;
+    }
+    4096 < shape.draws
+}
+
+// 4. A length other than 6 + 2k + 2n.
+fn bad_size(job: &[u8]) -> bool
+    ensures { λ r. ⌜ r ≡ badJobSize (now (job .entry)) ⌝ }
+{
+    let shape = shape_of(job);
+    number32_at(job, 0) != 6 + 2 * shape.slots as u32 + 2 * shape.draws as u32
+}
+
+// 5. A symbol in two starting slots, or the mark of a free slot among the draws.
+fn bad_symbols(job: &[u8], shape: Shape) -> bool
+    ensures { λ r. ⌜ r ≡ badSymbols (symbols (shape .slots) (drop starting-at (now (job .entry)))) (symbols (shape .draws) (drop (draws-at (shape .slots)) (now (job .entry)))) ⌝ }
+{
+    if doubled_in(job, 10, shape.slots as u16) {
+        return true;
+    }
+    stands_in(job, 10 + 2 * shape.slots as u32, shape.draws, FREE)
+}
+
+// The job's shape, or the first refusal of 1 to 5 that it meets.
+pub fn read_job(job: &[u8]) -> JobReading
+    ensures { λ r. ⌜ r ≡ readJob (now (job .entry)) ⌝ }
+{
+    if bad_length(job) {
+        return JobReading::Refused(1);
+    }
+    if bad_version(job) {
+        return JobReading::Refused(2);
+    }
+    let shape = shape_of(job);
+    if bad_limits(shape) {
+        return JobReading::Refused(3);
+    }
+    if bad_size(job) {
+        return JobReading::Refused(4);
+    }
+    if bad_symbols(job, shape) {
+        return JobReading::Refused(5);
+    }
+    JobReading::Taken(shape)
+}
+
+// What a slot of the job holds at the start.
+pub fn starting_symbol(job: &[u8], slot: u8) -> u16
+    ensures { λ r. ⌜ r ≡ number16 (now (job .entry)) (starting-at + 2 * slot) ⌝ }
+{
+    number16_at(job, 10 + 2 * slot as usize)
+}
+
+// The symbol of a draw, by its place, in a job of so many slots.
+pub fn draw_symbol(job: &[u8], slots: u8, draw: u16) -> u16
+    ensures { λ r. ⌜ r ≡ number16 (now (job .entry)) (draws-at slots + 2 * draw) ⌝ }
+{
+    number16_at(job, 10 + 2 * slots as usize + 2 * draw as usize)
+}

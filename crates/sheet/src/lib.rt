@@ -1,0 +1,14 @@
+// Jobs and load lists as bytes: readers that answer enums, and the writer of a list.
+// Every function answers for every input; what it answers is a definition of the crate `rules`.
+mod job;
+mod list;
+mod number;
+mod row;
+
+pub use job::draw_symbol;
+pub use job::read_job;
+pub use job::starting_symbol;
+pub use list::put_event;
+pub use list::put_head;
+pub use list::read_event;
+pub use list::read_list;

@@ -1,0 +1,74 @@
+# Turns lines of plan.txt and check.txt into rows of crates/rules/specs/Worked.antt, as one antt module on standard output.
+# most: the greatest elapsed of a row; report: the file that says how many rows there are, and of which refusals and plans.
+
+function digit(c) { return index("0123456789abcdef", c) - 1 }
+
+# A row of bytes in hexadecimal, as an antt list.
+function bytes(hex,   i, out) {
+    out = ""
+    if (hex != "-")
+        for (i = 1; i < length(hex); i += 2)
+            out = out (digit(substr(hex, i, 1)) * 16 + digit(substr(hex, i + 1, 1))) " ∷ "
+    return "(" out "[])"
+}
+
+# Numbers joined by commas, as an antt list.
+function numbers(text,   n, i, part, out) {
+    out = ""
+    if (text != "-") {
+        n = split(text, part, ",")
+        for (i = 1; i <= n; i++) out = out part[i] " ∷ "
+    }
+    return "(" out "[])"
+}
+
+function row(question, answer) { rows = rows "    row (" question ") " answer "\n    ∷ " }
+
+# Eight rows to a theorem, so that a refusal names a short stretch of the table.
+function flush() {
+    if (!held) return
+    theorems++
+    table = table "\npart-" theorems " : map found (" substr(rows, 5) "[]) ≡ map expected (" substr(rows, 5) "[])\n" \
+        "unfolding planned checked run tick beginning happened place symbols doubled missing greatest eventsIn eventsBytes due unruly\n" \
+        "part-" theorems " = refl\n"
+    rows = ""
+    held = 0
+}
+
+$1 == "plan" && $8 <= most {
+    row("plan " bytes($2) " " $3 " " $4, numbers($6 "," $7 "," $8 "," $9 "," $10))
+    row("list " bytes($2) " " $3 " " $4, bytes($11))
+    seen[$6]++
+    if ($6 == 0) plans[$3]++
+    used++
+    if (++held == 4) flush()
+}
+
+$1 == "check" && $9 <= most {
+    row("check " bytes($2) " " bytes($3) " " $4 " " $5, numbers($7 "," $8 "," $9 "," $10 "," $11))
+    row("ticks " bytes($2) " " bytes($3) " " $4 " " $5, numbers($12))
+    row("slots " bytes($2) " " bytes($3) " " $4 " " $5, numbers($13))
+    seen[$7]++
+    used++
+    if (++held == 4) flush()
+}
+
+END {
+    flush()
+    print "-- The vectors, computed with the definitions."
+    print "use mathlib.Core.Path.{_≡_, refl}"
+    print "use mathlib.Core.List.{[], _∷_, map}"
+    print "use Rattle.rules.specs.Basics.{place}"
+    print "use Rattle.rules.specs.Job.{symbols}"
+    print "use Rattle.rules.specs.LoadList.{eventsIn, eventsBytes}"
+    print "use Rattle.rules.specs.Display.{run, tick, beginning, happened}"
+    print "use Rattle.rules.specs.Plans.{missing, greatest}"
+    print "use Rattle.rules.specs.Refusals.{checked, planned, due, unruly, doubled}"
+    print "use Rattle.rules.specs.Worked.{Row, row, plan, list, check, ticks, slots, found, expected}"
+    print table
+    line = "tests/definitions: " used " vectors; plans accepted:"
+    for (p = 0; p <= 3; p++) line = line " " p " x" plans[p] + 0
+    line = line "; by number:"
+    for (n = 0; n <= 15; n++) if (seen[n]) line = line " " n " x" seen[n]
+    print line > report
+}
