@@ -120,14 +120,19 @@ abbrev pub loadable : Job → ℕ → Bool
 loadable job q = ltb q (job .slots)
 
 -- A load is refused while another is under way (10), in a slot that may not be named (11), and of a symbol that some slot
--- holds or that is no symbol (12), tested in this order. The detail is the number of the event, counted from 0.
+-- holds or that is no symbol (12), tested in this order; 0 where none of these holds.
+abbrev pub loadNumber : Job → ℕ → ℕ → State → ℕ
+loadNumber job q x s =
+    cond (not (idle (s .loading))) 10
+    (cond (not (loadable job q)) 11
+    (cond (eqb x free || stands x (s .slots)) 12
+    0))
+
+-- What begins, if anything does. The detail of a refusal is the number of the event, counted from 0.
 unfoldable pub beginning : Job → Begun → State → Run
 beginning job NoLoad s = going s
 beginning job (Load q x) s =
-    cond (not (idle (s .loading))) (refused 10 (s .loads))
-    (cond (not (loadable job q)) (refused 11 (s .loads))
-    (cond (eqb x free || stands x (s .slots)) (refused 12 (s .loads))
-    (going (begin job q x s))))
+    cond (eqb (loadNumber job q x s) 0) (going (begin job q x s)) (refused (loadNumber job q x s) (s .loads))
 
 -- Step 3. The symbol of the next draw, and what happens: it is drawn from the first slot that holds it, or the tick is a wait.
 abbrev pub awaited : State → ℕ
@@ -169,12 +174,20 @@ wait s =
       begun = s .begun;
     }
 
--- A wait with no load under way never ends where the rule asks for nothing any more. (Refusal 13: no event is left; the detail is the draw)
+-- A wait with no load under way never ends where the rule asks for nothing any more. (Refusal 13: no event is left)
+abbrev pub stuck : Happening → Bool → Bool
+stuck (Draw q) done = false
+stuck (Wait Awaited) done = false
+stuck (Wait Another) done = false
+stuck (Wait Nothing) done = done
+
+abbrev pub moved : Happening → State → State
+moved (Draw q) s = draw q s
+moved (Wait cause) s = wait s
+
+-- The detail of this refusal is the draw.
 unfoldable pub happened : Happening → Bool → State → Run
-happened (Draw q) done s = going (draw q s)
-happened (Wait Awaited) done s = going (wait s)
-happened (Wait Another) done s = going (wait s)
-happened (Wait Nothing) done s = cond done (refused 13 (s .next)) (going (wait s))
+happened h done s = cond (stuck h done) (refused 13 (s .next)) (going (moved h s))
 
 -- A run that was refused stays so.
 abbrev pub then : Run → (State → Run) → Run

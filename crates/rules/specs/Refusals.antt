@@ -1,5 +1,5 @@
 -- The refusals, their order, and what a plan and a check answer and leave in lent memory. (Document 01, "Refusal numbers")
-use Prim.Native.Nat.{ℕ, zero, suc, _+_, _*_, _-_}
+use Prim.Native.Nat.{ℕ, zero, suc, _+_, _*_, _-_, _/_}
 use mathlib.Core.Bool.{Bool, true, false, cond, not, _&&_, _||_}
 use mathlib.Core.List.{List, [], _∷_, _++_, map}
 use lib.ListN.{length, getD, drop}
@@ -12,7 +12,7 @@ use Rattle.rules.specs.declared.JobReading.the-variants.{Taken, Refused}
 use Rattle.rules.specs.declared.ListReading.{ListReading}
 use Rattle.rules.specs.declared.ListReading.the-variants.{Listed, Unreadable}
 use Rattle.rules.specs.declared.Shape.{Shape}
-use Rattle.rules.specs.Basics.{stands, number32}
+use Rattle.rules.specs.Basics.{stands, number32, bytes32}
 use Rattle.rules.specs.Job.{Job, free, most-slots, most-time, most-draws, shapeOf, startingOf, drawsOf, jobOf}
 use Rattle.rules.specs.LoadList.{Event, event, most-events, last-tick, head-size, event-size, countOf, eventsOf, listBytes}
 use Rattle.rules.specs.Display.{State, Run, Rule, Drawn, drawn, Loaded, loaded, going, refused, then, start, finished, run}
@@ -174,6 +174,14 @@ ticksOf r = map tickOf (drawsIn r)
 
 abbrev pub slotsOf : Run → List ℕ
 slotsOf r = map slotOf (drawsIn r)
+
+-- For a host in C each draw tick is four bytes, so a check has as many places for ticks as the bytes lent hold whole ones.
+unfoldable pub tickBytes : List ℕ → List ℕ
+tickBytes [] = []
+tickBytes (t ∷ l) = bytes32 t ++ tickBytes l
+
+abbrev pub checkedForC : List ℕ → List ℕ → ℕ → ℕ → Run
+checkedForC job list ticks slots = checked job list (ticks / 4) slots
 
 -- A plan writes its list into the room from the first byte on.
 abbrev pub eventOf : Loaded → Event
