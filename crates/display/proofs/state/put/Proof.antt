@@ -1,0 +1,30 @@
+use native.Mathlib.Omega.{arith}
+use mathlib.Core.Path.{_≡_, sym}
+use lib.Seq.{set-out}
+use lib.ListN.{length}
+use borrow.Author.Needs.{needs}
+use Rattle.display.proofs.state.put.Statement.{statement}
+use Rattle.display.proofs.state.put.Tie as tie
+use Rattle.display.proofs.state.put.Reads as reads
+use Rattle.display.proofs.state.put.Lts as lts
+
+-- src/state.rt:43:9
+mul-next : tie.Need-mul-next
+mul-next c = search needs
+
+-- src/state.rt:43:9
+array-write-next : tie.Need-array-write-next
+array-write-next c = search needs
+
+-- src/state.rt:44:9
+returns : tie.Need-returns
+returns c = search needs
+
+-- src/state.rt:37:1
+returns-2 : tie.Need-returns-2
+returns-2 c = 
+    let whole : length (c .before .args .slots) ≡ 64 = search needs in
+    sym (set-out (c .before .args .slots) (c .before .args .slot) (c .before .args .content) (omega arith))
+
+pub put-spec : {M : Type 1} → statement M
+put-spec = tie.close (tie.spec mul-next array-write-next returns returns-2)

@@ -1,0 +1,65 @@
+-- The code's state as the rules' state. The code holds 64 slots, of which a job uses the first k, and does not hold what stands
+-- beside it: the draws that remain, the draws made, the loads begun.
+use Prim.Native.Nat.{ℕ}
+use mathlib.Core.List.{List, [], _∷_, _++_}
+use lib.ListN.{take, drop}
+use Rattle.rules.specs.declared.Loading.{Loading}
+use Rattle.rules.specs.declared.Begun.{Begun}
+use Rattle.rules.specs.declared.Begun.the-variants.{Load, NoLoad}
+use Rattle.rules.specs.declared.Happening.{Happening}
+use Rattle.rules.specs.declared.Happening.the-variants.{Draw, Wait}
+use Rattle.rules.specs.declared.TickRecord.{TickRecord}
+use Rattle.rules.specs.Job.{Job}
+use Rattle.rules.specs.Display.{State, Drawn, drawn, Loaded, loaded}
+use Rattle.display.specs.declared.state.Display.{Display}
+
+pub record Beside : Type 0 where
+  pub rest : List ℕ
+  pub made : List Drawn
+  pub begun : List Loaded
+
+abbrev pub view : ℕ → Beside → Display → State
+view k h d =
+    record {
+      tick = d .tick;
+      next = d .next;
+      rest = h .rest;
+      slots = take k (d .slots);
+      loading = d .loading;
+      waits = d .waits;
+      loads = d .loads;
+      made = h .made;
+      begun = h .begun;
+    }
+
+-- The same display with other slots and another load under way.
+abbrev pub holding : Display → List ℕ → Loading → Display
+holding d slots loading =
+    record { tick = d .tick; next = d .next; waits = d .waits; loads = d .loads; loading = loading; slots = slots }
+
+-- What stands beside the display once a load has begun, and once a draw was made.
+abbrev pub begunNow : Display → ℕ → ℕ → Beside → Beside
+begunNow d q x h =
+    record { rest = h .rest; made = h .made; begun = h .begun ++ (loaded (d .tick) (d .next) q x ∷ []) }
+
+abbrev pub drawnNow : Display → ℕ → Beside → Beside
+drawnNow d q h = record { rest = drop 1 (h .rest); made = h .made ++ (drawn (d .tick) q ∷ []); begun = h .begun }
+
+-- The same by what went on record in a tick: what began, then what happened.
+abbrev pub besideBegun : Display → Begun → Beside → Beside
+besideBegun d NoLoad h = h
+besideBegun d (Load q x) h = begunNow d q x h
+
+abbrev pub besideMade : Display → Happening → Beside → Beside
+besideMade d (Draw q) h = drawnNow d q h
+besideMade d (Wait cause) h = h
+
+abbrev pub onward : Display → TickRecord → Beside → Beside
+onward d tick h = besideMade d (tick .happening) (besideBegun d (tick .begun) h)
+
+-- All that a single search looks at: the awaited symbol, and the numbers of a job.
+abbrev pub awaiting : ℕ → Beside
+awaiting x = record { rest = x ∷ []; made = []; begun = [] }
+
+abbrev pub shaped : ℕ → ℕ → Job
+shaped k time = record { slots = k; time = time; starting = []; draws = [] }
