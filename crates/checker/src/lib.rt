@@ -1,6 +1,6 @@
 // The check of any load list against any job: the walk along the list, the run, and the answer with its draws.
-mod check;
+mod answer;
 mod run;
 mod walk;
 
-pub use check::check;
+pub use answer::check;

@@ -4,14 +4,17 @@ use display::{advance, land, start, Display, Outcome, Ticked};
 use rules::{Answer, Begun, EventReading, Happening, Shape};
 ghost use mathlib.Core.Path.{_≡_};
 ghost use Prim.Native.Nat.{_≤_, _<_};
-ghost use lib.ListN.{length, take, drop};
-ghost use Rattle.rules.specs.Job.{startingOf};
-ghost use Rattle.rules.specs.LoadList.{eventsOf, eventsIn, head-size};
-ghost use Rattle.rules.specs.Refusals.{due, unruly};
+ghost use lib.ListN.{length, drop};
+ghost use Rattle.rules.specs.Job.{shapeOf, jobOf};
+ghost use Rattle.rules.specs.LoadList.{eventsIn, head-size};
+ghost use Rattle.rules.specs.Display.{refused};
+ghost use Rattle.rules.specs.Refusals.{answerOf, due, unruly, follows};
+ghost use Rattle.display.specs.Tick.{Room};
+ghost use Rattle.checker.specs.Follow.{Sized, Followed, noted, Shown, Finished, Ready};
 
 // The first event that breaks the rule of ticks, or the number of events. (Refusal 9)
-fn first_unruly(list: &[u8], count: u16) -> u32
-    requires { ⌜ head-size ≤ length (now list) ⌝ }
+pub fn first_unruly(list: &[u8], count: u16) -> u32
+    requires { ⌜ Sized count (now list) ⌝ }
     ensures { λ r. ⌜ r ≡ unruly 0 (eventsIn count (drop head-size (now (list .entry)))) ⌝ }
 {
     let mut index: u32 = 0;
@@ -31,4 +34,129 @@ fn first_unruly(list: &[u8], count: u16) -> u32
         index += 1;
     }
     index
+}
+
+// What the list asks for in this tick, when so many of its loads have begun.
+fn asked_of(list: &[u8], count: u16, loads: u32, tick: u32) -> Begun
+    requires { ⌜ Sized count (now list) ⌝ }
+    ensures { λ r. ⌜ r ≡ due (drop loads (eventsIn count (drop head-size (now (list .entry))))) tick ⌝ }
+{
+    if count as u32 <= loads {
+        return Begun::NoLoad;
+    }
+    let reading = event_of(list, loads);
+    let EventReading::Event { tick: at, slot, symbol } = reading else {
+        return Begun::NoLoad;
+    };
+    if at == tick {
+        return Begun::Load { slot, symbol };
+    }
+    Begun::NoLoad
+}
+
+// One tick along the list, while draws remain.
+fn follow_tick(job: &[u8], list: &[u8], shape: Shape, count: u16, d: Display) -> Ticked
+    requires { ⌜ (shape ≡ shapeOf (now job)) × (shape .slots ≤ 64) × Sized count (now list) × Room d × (d .loads < 4294967295) × (d .next < shape .draws) ⌝ }
+    ensures { λ r. ⌜ Followed (jobOf (now (job .entry))) (eventsIn count (drop head-size (now (list .entry)))) d r ⌝ }
+{
+    let landed = land(d);
+    let tick = landed.tick;
+    let loads = landed.loads;
+    let symbol = sheet::draw_symbol(job, shape.slots, landed.next);
+    let asked = asked_of(list, count, loads, tick);
+    let done = count as u32 <= loads;
+    advance(landed, shape.slots, shape.time, asked, symbol, done)
+}
+
+// Notes a draw in both buffers; a wait leaves them as they are.
+fn note(ticks: &mut [u32], slots: &mut [u8], draw: u16, tick: u32, happening: Happening)
+    requires { ⌜ (draw < length (now ticks)) × (draw < length (now slots)) ⌝ }
+    ensures ticks { λ r. ⌜ now (ticks .exit) ≡ noted happening (λ q. tick) draw (now (ticks .entry)) ⌝ }
+    ensures slots { λ r. ⌜ now (slots .exit) ≡ noted happening (λ q. q) draw (now (slots .entry)) ⌝ }
+{
+    match happening {
+        Happening::Draw { slot } => {
+            let at = draw as usize;
+            ticks[at] = tick;
+            slots[at] = slot;
+        }
+        Happening::Wait(_) => {}
+    }
+}
+
+// The answer to a run, and how many draws stand noted.
+pub struct Ran {
+    pub answer: Answer,
+    pub drawn: u16,
+}
+
+pub fn refusal(number: u32, detail: u32) -> Answer
+    ensures { λ r. ⌜ r ≡ answerOf (refused number detail) ⌝ }
+{
+    Answer {
+        number,
+        detail,
+        elapsed: 0,
+        waits: 0,
+        loads: 0,
+    }
+}
+
+// The end of a run that was not refused on the way: accepted, unless an event is left. (Refusal 14)
+fn finish(d: Display, count: u16) -> Ran
+    requires { ⌜ d .next ≤ 4096 ⌝ }
+    ensures { λ r. ⌜ Finished count d r ⌝ }
+{
+    if d.loads < count as u32 {
+        return Ran {
+            answer: refusal(14, d.loads),
+            drawn: 0,
+        };
+    }
+    Ran {
+        answer: Answer {
+            number: 0,
+            detail: 0,
+            elapsed: d.tick,
+            waits: d.waits,
+            loads: d.loads,
+        },
+        drawn: d.next,
+    }
+}
+
+// The run of the whole list, with the draws noted in the two buffers.
+pub fn run_list(job: &[u8], list: &[u8], shape: Shape, count: u16, ticks: &mut [u32], slots: &mut [u8]) -> Ran
+    requires { ⌜ Ready (now job) (now list) shape count (now ticks) (now slots) ⌝ }
+    ensures { λ r. ⌜ Shown (follows (jobOf (now (job .entry))) (eventsIn count (drop head-size (now (list .entry))))) r (now (ticks .exit)) (now (slots .exit)) ⌝ }
+{
+    let mut d = start(sheet::starting_slots(job, shape.slots));
+    let mut left: u32 = 8388608 + shape.time as u32 + shape.draws as u32;
+    loop {
+        let draw = d.next;
+        let tick = d.tick;
+        if shape.draws <= draw {
+            return finish(d, count);
+        }
+        if left == 0 {
+            return finish(d, count);
+        }
+        let ticked = follow_tick(job, list, shape, count, d);
+        let outcome = ticked.outcome;
+        match outcome {
+            Outcome::Refused { number, detail } => {
+                return Ran {
+                    answer: refusal(number, detail),
+                    drawn: 0,
+                };
+            }
+            Outcome::Went(record) => {
+                let happening = record.happening;
+                note(ticks, slots, draw, tick, happening);
+                let later = ticked.display;
+                d = later;
+                left -= 1;
+            }
+        }
+    }
 }

@@ -52,13 +52,13 @@ moved-counts k d r (Wait cause) h e =
       loads = omega arith;
     }
 
--- The counters over a load that begins in the same tick, or over none.
-later-counts : (most : ℕ) (hp : Happening) (d b r : Display) → b .tick ≡ d .tick → b .next ≡ d .next → b .waits ≡ d .waits → b .loads ≤ d .loads + most
-  → Counted 0 hp b r → Counted most hp d r
-later-counts most hp d b r t n w l counts =
+-- The counters over two moves: from d to b, with at most so many loads begun, and from b on.
+pub later-counts : (extra most : ℕ) (hp : Happening) (d b r : Display) → b .tick ≡ d .tick → b .next ≡ d .next → b .waits ≡ d .waits → b .loads ≤ d .loads + extra
+  → Counted most hp b r → Counted (extra + most) hp d r
+later-counts extra most hp d b r t n w l counts =
     let tick′ : r .tick ≡ b .tick + 1 = counts .tick in
     let waits′ : r .waits ≤ b .waits + 1 = counts .waits in
-    let loads′ : r .loads ≤ b .loads + 0 = counts .loads in
+    let loads′ : r .loads ≤ b .loads + most = counts .loads in
     record {
       tick = omega arith;
       next = counts .next ∙ ap (nextAfter hp) n;
@@ -96,7 +96,7 @@ module _ (k : ℕ) (d : Display) (asked : Begun) (symbol : ℕ) (done : Bool) (h
       }
 
 -- What stands beside the display after a draw goes by the tick alone.
-same-made : (d d′ : Display) (hp : Happening) (h : Beside) → d′ .tick ≡ d .tick → besideMade d′ hp h ≡ besideMade d hp h
+pub same-made : (d d′ : Display) (hp : Happening) (h : Beside) → d′ .tick ≡ d .tick → besideMade d′ hp h ≡ besideMade d hp h
 same-made d d′ (Draw q) h e =
     ap (λ (t : ℕ). record { rest = drop 1 (h .rest); made = h .made ++ (drawn t q ∷ []); begun = h .begun }) e
 same-made d d′ (Wait cause) h e = refl
@@ -115,7 +115,7 @@ same-lead k d d′ h asked done b o later e same =
 
 -- With no load begun at most one load more is said too.
 any-counts : (o : Outcome) (d later : Display) → counted 0 o d later → counted 1 o d later
-any-counts (Went tick) d later counts = later-counts 1 (tick .happening) d d later refl refl refl (omega arith) counts
+any-counts (Went tick) d later counts = later-counts 1 0 (tick .happening) d d later refl refl refl (omega arith) counts
 any-counts (Refused number detail) d later counts = tt
 
 module _ (k time : ℕ) (d : Display) (symbol : ℕ) (done : Bool) where
@@ -189,7 +189,7 @@ module _ (k time : ℕ) (d : Display) (symbol : ℕ) (done : Bool) where
           keeps = rw went tt;
           counts =
               rw went
-              (later-counts 1 (happeningOf (view k (awaiting symbol) b)) d b (r .display) same-tick same-next same-waits one-more
+              (later-counts 1 0 (happeningOf (view k (awaiting symbol) b)) d b (r .display) same-tick same-next same-waits one-more
               (rw went at (settled .counts)));
           run = λ h job e slots′ time′.
               same-lead k d b h asked done (view k (awaiting symbol) b) (r .outcome) (r .display) (settled .outcome) same-tick

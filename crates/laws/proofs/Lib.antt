@@ -12,3 +12,4 @@ pub mod Sane
 pub mod Counts
 pub mod Along
 pub mod Checks
+pub mod Events

@@ -12,6 +12,7 @@ ghost use Prim.Native.Nat.{_+_, _*_};
 ghost use Rattle.rules.specs.Basics.{number16};
 ghost use lib.ListN.{drop};
 ghost use Rattle.rules.specs.Job.{shapeOf, symbols, starting-at, draws-at};
+ghost use Rattle.sheet.specs.Row.{row64};
 ghost use Rattle.rules.specs.Refusals.{readJob, badJobLength, badJobVersion, badLimits, badJobSize, badSymbols};
 
 fn shape_of(job: &[u8]) -> Shape
@@ -113,4 +114,20 @@ pub fn draw_symbol(job: &[u8], slots: u8, draw: u16) -> u16
     ensures { λ r. ⌜ r ≡ number16 (now (job .entry)) (draws-at slots + 2 * draw) ⌝ }
 {
     number16_at(job, 10 + 2 * slots as usize + 2 * draw as usize)
+}
+
+// What each of the 64 slots of a display holds at the start of a job of so many slots.
+pub fn starting_slots(job: &[u8], slots: u8) -> [u16; 64]
+    ensures { λ r. ⌜ r ≡ row64 slots (now (job .entry)) ⌝ }
+{
+    let mut row = [FREE; 64];
+    let mut slot: u8 = 0;
+    while slot < 64 {
+        if slots <= slot {
+            return row;
+        }
+        row[slot as usize] = starting_symbol(job, slot);
+        slot += 1;
+    }
+    row
 }

@@ -7,6 +7,7 @@ mod row;
 
 pub use job::draw_symbol;
 pub use job::read_job;
+pub use job::starting_slots;
 pub use job::starting_symbol;
 pub use list::put_event;
 pub use list::put_head;

@@ -1,0 +1,92 @@
+use Rattle.sheet.proofs.Rows.{row-more, row-none, row-full}
+use Rattle.sheet.specs.Row.{row64}
+use Rattle.rules.specs.Basics.{number16}
+use lib.ListN.{set}
+use mathlib.Core.List.{List}
+use mathlib.Core.Path.{_≡_, sym, ap, _∙_}
+use Prim.Native.Nat.{ℕ, _+_, _*_, _-_, _≤_}
+use native.Mathlib.Omega.{arith}
+use borrow.Author.Needs.{needs}
+use Rattle.sheet.proofs.job.starting_slots.Statement.{statement}
+use Rattle.sheet.proofs.job.starting_slots.Tie as tie
+use Rattle.sheet.proofs.job.starting_slots.Reads as reads
+use Rattle.sheet.proofs.job.starting_slots.Lts as lts
+use Rattle.sheet.proofs.job.starting_symbol.Reads as starting-symbol-reads
+
+abbrev Inv-loop : tie.InvT-loop
+Inv-loop job slots row₀ slot₀ row slot = (slot ≤ 64) × (slot ≤ slots) × (row ≡ row64 slot job)
+
+abbrev μ-loop : tie.MeasureT-loop
+μ-loop job slots row₀ slot₀ row slot = 64 - slot
+
+-- src/job.rt:125:5
+loop-holds : tie.Need-loop-holds Inv-loop μ-loop
+loop-holds c = (omega arith, omega arith, sym (row-none (c .before .args .job .now)))
+
+-- src/job.rt:127:13
+returns : tie.Need-returns Inv-loop μ-loop
+returns c = 
+    let a = c .before .before .before .before .args in
+    let l = c .before .before .loop in
+    let same : l .slot ≡ a .slots = omega arith in
+    l .inv .2 ∙ ap (λ (k : ℕ). row64 k (a .job .now)) same
+
+-- src/job.rt:129:30
+starting-symbol-requires : tie.Need-starting-symbol-requires Inv-loop μ-loop
+starting-symbol-requires c κs = search needs
+
+-- src/job.rt:129:13
+cast-row : tie.Need-cast-row Inv-loop μ-loop
+cast-row c = omega arith
+
+-- src/job.rt:129:9
+mul-row : tie.Need-mul-row Inv-loop μ-loop
+mul-row c = omega arith
+
+-- src/job.rt:129:9
+array-write-row : tie.Need-array-write-row Inv-loop μ-loop
+array-write-row c = search needs
+
+-- src/job.rt:130:9
+add-slot : tie.Need-add-slot Inv-loop μ-loop
+add-slot c = omega arith
+
+-- src/job.rt:125:5
+loop-less : tie.Need-loop-less Inv-loop μ-loop
+loop-less c = omega arith
+
+-- src/job.rt:125:5
+loop-again : tie.Need-loop-again Inv-loop μ-loop
+loop-again c = 
+    let a = c .before .before .before .before .before .args in
+    let l = c .before .before .before .loop in
+    ( omega arith
+    , omega arith
+    , ap (λ (v : ℕ). set (l .row) (l .slot) v) (c .starting-symbol .ensures)
+      ∙ ap (λ (r : List ℕ). set r (l .slot) (number16 (a .job .now) (10 + 2 * l .slot))) (l .inv .2)
+      ∙ row-more (l .slot) (a .job .now) (c .before .before .loop-test .taken))
+
+-- src/job.rt:120:1
+returns-2 : tie.Need-returns-2 Inv-loop μ-loop
+returns-2 c = 
+    let a = c .before .before .before .args in
+    let l = c .before .loop in
+    let same : l .slot ≡ 64 = omega arith in
+    l .inv .2 ∙ ap (λ (k : ℕ). row64 k (a .job .now)) same ∙ row-full (a .slots) (a .job .now) (omega arith)
+
+pub starting-slots-spec : {M : Type 1} → statement M
+starting-slots-spec =
+    tie.close
+    (tie.spec
+    Inv-loop
+    μ-loop
+    loop-holds
+    returns
+    starting-symbol-requires
+    cast-row
+    mul-row
+    array-write-row
+    add-slot
+    loop-less
+    loop-again
+    returns-2)
