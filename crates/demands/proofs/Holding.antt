@@ -80,7 +80,7 @@ same-last q t (loaded u d r x ∷ begun) h =
     rw (same-last q t begun (λ i m. h (suc i) (omega arith)), le-leb u t (h 0 (omega arith)), le-leb u (t + 1) (let b : u ≤ t = h 0 (omega arith) in omega arith))
 
 -- So a slot into which all loads have ended holds the same a tick later.
-stays : (starting time t q : ℕ) (begun : List Loaded) → Each (λ u. u + time ≤ t) (map loadTick begun)
+pub stays : (starting time t q : ℕ) (begun : List Loaded) → Each (λ u. u + time ≤ t) (map loadTick begun)
     → leaves starting time (t + 1) (lastLoad q (t + 1) (map eventOf begun)) ≡ leaves starting time t (lastLoad q t (map eventOf begun))
 stays starting time t q begun h =
     rw (same-last q t begun (λ i m. let b : getD (map loadTick begun) i 0 + time ≤ t = h i m in omega arith))

@@ -89,6 +89,10 @@ SaneState job s = Sane job (s .next) (s .rest) (s .slots) (s .loading)
 pub none-under : {A : Type 0} (left q x : ℕ) → Idle ≡ Under left q x → A
 none-under left q x e = let z : _≡_ {A = ℕ} 0 1 = cc in absurd (omega arith)
 
+pub idle-if-none : (loading : Loading) → ((left q x : ℕ) → loading ≡ Under left q x → ⊥) → loading ≡ Idle
+idle-if-none Idle none = refl
+idle-if-none (Under left q x) none = absurd (none left q x refl)
+
 pub one-under : (P : ℕ → ℕ → ℕ → Type 0) (left q x left′ q′ x′ : ℕ) → P left q x → Under left q x ≡ Under left′ q′ x′ → P left′ q′ x′
 one-under P left q x left′ q′ x′ p e =
     let e₁ : left ≡ left′ = cc in
