@@ -35,7 +35,8 @@ module _ (job : Job) (rule : Rule) (P L B : State → Type 0) (keeps : Moves job
   unfolding happened
   happens-at-all s more b =
       let free : stuck (happeningOf s) (rule .done s) ≡ false =
-      by-test (stands (awaited s) (s .slots)) (λ t. rw t) (λ t. rw t (unstuck (s .loading) (awaited s) (rule .done s) (λ i. goes .waits s more t i b))) in
+      by-test (stands (awaited s) (s .slots)) (λ t. rw t)
+      (λ t. rw t (unstuck (s .loading) (awaited s) (rule .done s) (λ i. goes .waits s more t i b))) in
       (moved (happeningOf s) s, rw free)
 
   tick-goes : (s : State) → 0 < length (s .rest) → P s → (s′ : State) × (tick job rule s ≡ going s′)

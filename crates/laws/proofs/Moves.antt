@@ -89,6 +89,7 @@ is-idle : (loading : Loading) → idle loading ≡ true → loading ≡ Idle
 is-idle Idle e = refl
 is-idle (Under left q x) e = let z : _≡_ {A = ℕ} 0 1 = cc in absurd (omega arith)
 
+-- A run is over exactly when no draw remains.
 pub is-more : (rest : List ℕ) → finished rest ≡ false → 0 < length rest
 is-more [] e = let z : _≡_ {A = ℕ} 0 1 = cc in absurd (omega arith)
 is-more (x ∷ rest) e = omega arith
