@@ -20,15 +20,15 @@ use Rattle.laws.proofs.Jobs.{Proper}
 use Rattle.laws.proofs.Counts.{loadTick, ahead, BusyLanded}
 use Rattle.laws.proofs.Along.{Ruly, Along, AlongLanded, due-load}
 use Rattle.demands.specs.Held.{held}
-use Rattle.demands.specs.Fair.{tickIn, eventAt, MayBegin}
+use Rattle.demands.specs.Fair.{eventTick, eventAt, MayBegin}
 use Rattle.demands.proofs.Holding.{HoldingBetween, HoldingLanded, HoldingBegun, holding-moves, holding-start}
 
-begun-tick : (begun : List Loaded) (j : ℕ) → tickIn (eventAt (map eventOf begun) j) ≡ getD (map loadTick begun) j 0
+begun-tick : (begun : List Loaded) (j : ℕ) → eventTick (eventAt (map eventOf begun) j) ≡ getD (map loadTick begun) j 0
 begun-tick [] j = refl
 begun-tick (loaded t d q x ∷ begun) zero = refl
 begun-tick (loaded t d q x ∷ begun) (suc j) = begun-tick begun j
 
-module _ (time least tick next loads : ℕ) (events : List Event) (loading : Loading) (begun : List Loaded)
+module _ {time least tick next loads : ℕ} {events : List Event} {loading : Loading} {begun : List Loaded}
     (a : Along time least tick next loads events loading begun) where
   -- As many loads were begun as are counted, each at the tick of its event.
   pub as-many : length begun ≡ loads
@@ -37,10 +37,10 @@ module _ (time least tick next loads : ℕ) (events : List Event) (loading : Loa
       let size : length (map eventOf begun) ≡ length begun = length-map begun eventOf in
       omega arith
 
-  pub tick-begun : (j : ℕ) → j < loads → tickIn (eventAt events j) ≡ getD (map loadTick begun) j 0
+  pub tick-begun : (j : ℕ) → j < loads → eventTick (eventAt events j) ≡ getD (map loadTick begun) j 0
   tick-begun j h =
-      ap tickIn (sym (getD-take loads events j (event 0 0 0) h))
-      ∙ ap (λ (l : List Event). tickIn (eventAt l j)) (sym (a .so-far))
+      ap eventTick (sym (getD-take loads events j (event 0 0 0) h))
+      ∙ ap (λ (l : List Event). eventTick (eventAt l j)) (sym (a .so-far))
       ∙ begun-tick begun j
 
 -- The event that is due is the first that was not begun.
@@ -74,12 +74,12 @@ begins-now job events q x s b g =
     let a : AlongLanded job events s = g .0 .1 in
     let busy : BusyLanded job s = g .0 .0 .1 in
     let row : length (s .slots) ≡ job .slots = g .0 .0 .0 .row in
-    let many : length (s .begun) ≡ s .loads = as-many _ _ _ _ _ _ _ _ a in
+    let many : length (s .begun) ≡ s .loads = as-many a in
     let size : length (map loadTick (s .begun)) ≡ length (s .begun) = length-map (s .begun) loadTick in
     record {
       idle = λ j h.
           let e : getD (map loadTick (s .begun)) j 0 + job .time ≤ s .tick + ahead (s .loading) = busy .ends j (omega arith) in
-          rw (is, tick-begun _ _ _ _ _ _ _ _ a j h) (omega arith);
+          rw (is, tick-begun a j h) (omega arith);
       slot = rw is (b .slot);
       symbol = rw is (b .symbol);
       unheld = λ r m e.
@@ -110,8 +110,8 @@ fair-moves job events =
     }
 
 -- Each event that a run along a list has begun may begin where it stands in the list, on a sheet that is over at the run's tick.
-pub fair : (job : Job) (events : List Event) → Proper job → Ruly 0 events → (t : ℕ) (s : State) → run job (follow events) t (start job) ≡ going s
-    → (i : ℕ) → i < s .loads → MayBegin job events i (s .tick)
+pub fair : (job : Job) (events : List Event) → Proper job → Ruly 0 events → (t : ℕ) (s : State)
+    → run job (follow events) t (start job) ≡ going s → (i : ℕ) → i < s .loads → MayBegin job events i (s .tick)
 fair job events p ordered t s e =
     reached job (follow events) _ _ _
     (upon job (follow events) _ _ _ _ _ _ (holding-moves job events (p .some-time)) (fair-moves job events))

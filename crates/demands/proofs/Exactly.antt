@@ -28,7 +28,7 @@ use Rattle.laws.proofs.Counts.{loadTick, ahead, Last, BusyBegun}
 use Rattle.laws.proofs.Along.{Ruly, ruly-first, AlongLanded, AlongBegun, AlongBetween, along, over-in-time}
 use Rattle.laws.proofs.Checks.{Accepted, accepted}
 use Rattle.demands.specs.Held.{held, lastLoad, leaves, DrawnAt, from, Sheet}
-use Rattle.demands.specs.Fair.{tickIn, eventAt, MayBegin, Right}
+use Rattle.demands.specs.Fair.{eventTick, eventAt, MayBegin, Right}
 use Rattle.demands.proofs.Holding.{HoldingLanded, HoldingBegun, stays}
 use Rattle.demands.proofs.Witness.{WitnessedState, witnessing-moves, witnessing-start, witnessed, unheld-now, sheet-right}
 use Rattle.demands.proofs.Only.{looked-alike, only-sheet}
@@ -43,7 +43,7 @@ last-tick-begun time end q x begun l =
       rw (l .is-last) (length-snoc (l .before) _),
     )
 
--- A list whose events may all begin is not refused one.
+-- A list whose events may all begin has none of them refused.
 module _ (job : Job) (events : List Event) (end : ℕ) (may : (i : ℕ) → i < length events → MayBegin job events i end) where
   quiet-then : (q x : ℕ) (s : State) → due (drop (s .loads) events) (s .tick) ≡ Load q x → HoldingLanded job events s → s .loading ≡ Idle
   quiet-then q x s asks g =
@@ -53,15 +53,16 @@ module _ (job : Job) (events : List Event) (end : ℕ) (may : (i : ℕ) → i < 
       let a : AlongLanded job events s = g .0 .1 in
       let l : Last (job .time) (s .tick + rest + 1) r y (s .begun) = g .0 .0 .1 .last rest r y e in
       let (at, size) = last-tick-begun _ _ _ _ _ l in
-      let many : length (s .begun) ≡ s .loads = as-many _ _ _ _ _ _ _ _ a in
+      let many : length (s .begun) ≡ s .loads = as-many a in
       let inside : length (l .before) < s .loads = omega arith in
-      let when : tickIn (eventAt events (length (l .before))) ≡ l .tick = tick-begun _ _ _ _ _ _ _ _ a (length (l .before)) inside ∙ at in
-      let now : tickIn (eventAt events (s .loads)) ≡ s .tick = ap tickIn (event-due events (s .loads) (s .tick) q x asks) in
-      let ended : tickIn (eventAt events (length (l .before))) + job .time ≤ tickIn (eventAt events (s .loads)) =
+      let when : eventTick (eventAt events (length (l .before))) ≡ l .tick = tick-begun a (length (l .before)) inside ∙ at in
+      let now : eventTick (eventAt events (s .loads)) ≡ s .tick = ap eventTick (event-due events (s .loads) (s .tick) q x asks) in
+      let ended : eventTick (eventAt events (length (l .before))) + job .time ≤ eventTick (eventAt events (s .loads)) =
       may (s .loads) left .idle (length (l .before)) inside in
       omega arith)
 
-  load-goes : (q x : ℕ) (s : State) → due (drop (s .loads) events) (s .tick) ≡ Load q x → HoldingLanded job events s → loadNumber job q x s ≡ 0
+  load-goes : (q x : ℕ) (s : State) → due (drop (s .loads) events) (s .tick) ≡ Load q x → HoldingLanded job events s
+      → loadNumber job q x s ≡ 0
   load-goes q x s asks g =
       let left : s .loads < length events = due-left events (s .loads) (s .tick) q x asks in
       let m : MayBegin job events (s .loads) end = may (s .loads) left in
@@ -85,8 +86,9 @@ stays-long starting time t q begun (suc n) h =
     (stays starting time (t + n) q begun (λ i m. let b : getD (map loadTick begun) i 0 + time ≤ t = h i m in omega arith)
     ∙ stays-long starting time t q begun n h)
 
-all-stay : (job : Job) (events : List Event) (s : State) → s .loading ≡ Idle → length events ≤ s .loads → HoldingBegun job events s → (t q : ℕ) → s .tick ≤ t
-    → held job events t q ≡ held job events (s .tick) q
+-- So it is with a run that has begun the whole list and has no load under way.
+all-stay : (job : Job) (events : List Event) (s : State) → s .loading ≡ Idle → length events ≤ s .loads → HoldingBegun job events s
+    → (t q : ℕ) → s .tick ≤ t → held job events t q ≡ held job events (s .tick) q
 all-stay job events s quiet done g t q later =
     let a : AlongBegun job events s = g .0 .1 in
     let busy : BusyBegun job s = g .0 .0 .1 in
@@ -127,10 +129,11 @@ module _ (job : Job) (events : List Event) (ticks slots : List ℕ) (answer : An
       (λ e. e)
 
 -- What is left of a list begins no sooner than its lowest tick.
-ruly-least : (least : ℕ) (l : List Event) → Ruly least l → 0 < length l → least ≤ tickIn (eventAt l 0)
+ruly-least : (least : ℕ) (l : List Event) → Ruly least l → 0 < length l → least ≤ eventTick (eventAt l 0)
 ruly-least least [] h more = absurd (omega arith)
 ruly-least least (event t q x ∷ l) h more = ruly-first least t q x l h .0
 
+-- So a run along a list with a sheet that is right comes to its end, with no event left.
 module _ (job : Job) (events : List Event) (p : Proper job) (ordered : Ruly 0 events) (ticks slots : List ℕ) (answer : Answer)
     (sheet : Sheet job events ticks slots answer)
     (may : (i : ℕ) → i < length events → MayBegin job events i (answer .elapsed)) where
@@ -154,14 +157,15 @@ module _ (job : Job) (events : List Event) (p : Proper job) (ordered : Ruly 0 ev
       let all : s .next + length (s .rest) ≡ length (job .draws) = remaining job (s .next) (s .rest) (s .slots) (s .loading) g in
       let none : length (s .rest) ≡ 0 = ap length over in
       let last : s .next ≡ length (job .draws) = omega arith in
-      let look : from ticks (s .next) ≡ from (map tickOf (s .made)) (s .next) = same-look job events ticks slots answer sheet s (omega arith) w in
+      let look : from ticks (s .next) ≡ from (map tickOf (s .made)) (s .next) =
+      same-look job events ticks slots answer sheet s (omega arith) w in
       let ends : answer .elapsed ≡ from ticks (s .next) = rw last (sheet .elapsed) in
       let stands-at : s .tick ≡ from (map tickOf (s .made)) (s .next) = w .over last in
       let same : s .loads + 0 ≡ s .loads = omega arith in
       let some : 0 < length (drop (s .loads) events) = rw length-drop (omega arith) in
-      let late : s .tick ≤ tickIn (eventAt events (s .loads)) =
+      let late : s .tick ≤ eventTick (eventAt events (s .loads)) =
       rw (getD-drop, same) at (ruly-least (s .tick) (drop (s .loads) events) (a .to-come) some) in
-      let soon : tickIn (eventAt events (s .loads)) < answer .elapsed = may (s .loads) left .in-time in
+      let soon : eventTick (eventAt events (s .loads)) < answer .elapsed = may (s .loads) left .in-time in
       absurd (omega arith))
       (λ e. e)
 
@@ -171,6 +175,29 @@ module _ (job : Job) (events : List Event) (p : Proper job) (ordered : Ruly 0 ev
       let over : s .rest ≡ [] = over-in-time job events p ordered s ran in
       (s, rw (le-ltb (unruly 0 events) (length events) (omega arith), ran, none-left (patience job) s ran over))
 
+-- What an accepted check reports is right by the list alone.
+pub accepted-is-right : (job list : List ℕ) (tick-places slot-places : ℕ) (s : State) → checked job list tick-places slot-places ≡ going s
+    → Right job list tick-places slot-places
+    (ticksOf (checked job list tick-places slot-places))
+    (slotsOf (checked job list tick-places slot-places))
+    (answerOf (checked job list tick-places slot-places))
+accepted-is-right job list tick-places slot-places s e =
+    let a : Accepted job list tick-places slot-places s = accepted job list tick-places slot-places s e in
+    let p : Proper (jobOf job) = proper job _ (a .job-taken) in
+    let sheet = sheet-right job list tick-places slot-places s e in
+    record {
+      job-taken = a .job-taken;
+      list-read = rw (a .list-read);
+      tick-room = a .tick-room;
+      slot-room = a .slot-room;
+      in-order = a .ordered;
+      may-begin = λ i h. rw e (fair (jobOf job) (eventsOf list) p (a .ordered) (patience (jobOf job)) s (a .ran) i (rw (a .all-begun) h));
+      sheet = sheet;
+      number = rw e;
+      detail = rw e;
+    }
+
+-- A list that is read passed its test.
 readable : (list : List ℕ) → readList list ≡ Listed (countOf list) → badList list ≡ false
 readable list e =
     by-test (badList list)
@@ -194,26 +221,6 @@ right-is-accepted job list tick-places slot-places ticks slots answer r =
       ) e,
     )
 
--- What an accepted check reports is right by the list alone.
-pub accepted-is-right : (job list : List ℕ) (tick-places slot-places : ℕ) (s : State) → checked job list tick-places slot-places ≡ going s
-    → Right job list tick-places slot-places (ticksOf (checked job list tick-places slot-places)) (slotsOf (checked job list tick-places slot-places))
-    (answerOf (checked job list tick-places slot-places))
-accepted-is-right job list tick-places slot-places s e =
-    let a : Accepted job list tick-places slot-places s = accepted job list tick-places slot-places s e in
-    let p : Proper (jobOf job) = proper job _ (a .job-taken) in
-    let sheet = sheet-right job list tick-places slot-places s e in
-    record {
-      job-taken = a .job-taken;
-      list-read = rw (a .list-read);
-      tick-room = a .tick-room;
-      slot-room = a .slot-room;
-      in-order = a .ordered;
-      may-begin = λ i h. rw e (fair (jobOf job) (eventsOf list) p (a .ordered) (patience (jobOf job)) s (a .ran) i (rw (a .all-begun) h));
-      sheet = sheet;
-      number = rw e;
-      detail = rw e;
-    }
-
 -- And it reports that sheet.
 pub right-is-reported : (job list : List ℕ) (tick-places slot-places : ℕ) (ticks slots : List ℕ) (answer : Answer)
     → Right job list tick-places slot-places ticks slots answer
@@ -223,7 +230,8 @@ pub right-is-reported : (job list : List ℕ) (tick-places slot-places : ℕ) (t
 right-is-reported job list tick-places slot-places ticks slots answer r =
     let (s, e) = right-is-accepted job list tick-places slot-places ticks slots answer r in
     let given = accepted-is-right job list tick-places slot-places s e in
-    let (same-ticks, same-slots, elapsed, waits, loads) = only-sheet (jobOf job) (eventsOf list) _ _ ticks slots _ answer (given .sheet) (r .sheet) in
+    let (same-ticks, same-slots, elapsed, waits, loads) =
+    only-sheet (jobOf job) (eventsOf list) _ _ ticks slots _ answer (given .sheet) (r .sheet) in
     let number = given .number ∙ sym (r .number) in
     let detail = given .detail ∙ sym (r .detail) in (
       same-ticks,

@@ -54,7 +54,11 @@ module _ (job : Job) (events : List Event) (tick next : ℕ) (ticks slots : List
             let before : i < next = ltb-true i next t in
             let in-ticks : i < length ticks = omega arith in
             let in-slots : i < length slots = omega arith in
-            rw (from-snoc ticks tick i (omega arith), List·getD-append ticks (tick ∷ []) 0 i in-ticks, List·getD-append slots (q ∷ []) 0 i in-slots) (w .made i before))
+            rw (
+              from-snoc ticks tick i (omega arith),
+              List·getD-append ticks (tick ∷ []) 0 i in-ticks,
+              List·getD-append slots (q ∷ []) 0 i in-slots,
+            ) (w .made i before))
             (λ t.
             let last : i ≡ next = let far : next ≤ i = ltb-false i next t in omega arith in
             rw (last, from-snoc ticks tick next (omega arith), at-tick, at-slot) d);
@@ -105,7 +109,8 @@ module _ (job : Job) (events : List Event) (s : State) (g : HoldingBegun job eve
       }
 
   -- A symbol that stands in no slot is held by none.
-  pub unheld-now : stands (awaited s) (s .slots) ≡ false → (r : ℕ) → r < job .slots → held job events (s .tick) r ≡ getD (job .draws) (s .next) 0 → ⊥
+  pub unheld-now : stands (awaited s) (s .slots) ≡ false → (r : ℕ) → r < job .slots
+      → held job events (s .tick) r ≡ getD (job .draws) (s .next) 0 → ⊥
   unheld-now unheld r inside e =
       let row : length (s .slots) ≡ job .slots = g .0 .0 .0 .row in
       absent-at (awaited s) (s .slots) unheld r (rw row inside) (shown job events s g r inside ∙ e ∙ sym awaits)
@@ -157,7 +162,8 @@ witnessing-start job events p ordered = (holding-start job events p ordered, wit
 pub witnessed : (job : Job) (events : List Event) → Proper job → Ruly 0 events → (t : ℕ) (s : State)
     → run job (follow events) t (start job) ≡ going s → WitnessedState job events s
 witnessed job events p ordered t s e =
-    reached job (follow events) _ _ _ (witnessing-moves job events (p .some-time)) t (start job) s (witnessing-start job events p ordered) e .1
+    reached job (follow events) _ _ _ (witnessing-moves job events (p .some-time))
+    t (start job) s (witnessing-start job events p ordered) e .1
 
 -- The sheet that an accepted check reports is right by the list alone: for each draw the slot reported holds its symbol at the tick
 -- reported, no lower slot does, and no slot did at any tick since the draw before.

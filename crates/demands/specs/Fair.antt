@@ -12,14 +12,14 @@ use Rattle.rules.specs.Refusals.{readJob, readList, unruly}
 use Rattle.demands.specs.Held.{held, Sheet}
 
 -- The tick, the slot and the symbol of event i.
-abbrev pub tickIn : Event → ℕ
-tickIn (event t q x) = t
+abbrev pub eventTick : Event → ℕ
+eventTick (event t q x) = t
 
-abbrev pub slotIn : Event → ℕ
-slotIn (event t q x) = q
+abbrev pub eventSlot : Event → ℕ
+eventSlot (event t q x) = q
 
-abbrev pub symbolIn : Event → ℕ
-symbolIn (event t q x) = x
+abbrev pub eventSymbol : Event → ℕ
+eventSymbol (event t q x) = x
 
 abbrev pub eventAt : List Event → ℕ → Event
 eventAt events i = getD events i (event 0 0 0)
@@ -31,11 +31,11 @@ eventAt events i = getD events i (event 0 0 0)
 --     unheld     by the events before it, no slot holds that symbol at its tick
 --     in-time    its tick comes before the sheet is over
 pub record MayBegin (job : Job) (events : List Event) (i end : ℕ) : Type 0 where
-  pub idle : (j : ℕ) → j < i → tickIn (eventAt events j) + job .time ≤ tickIn (eventAt events i)
-  pub slot : slotIn (eventAt events i) < job .slots
-  pub symbol : symbolIn (eventAt events i) ≡ free → ⊥
-  pub unheld : (r : ℕ) → r < job .slots → held job (take i events) (tickIn (eventAt events i)) r ≡ symbolIn (eventAt events i) → ⊥
-  pub in-time : tickIn (eventAt events i) < end
+  pub idle : (j : ℕ) → j < i → eventTick (eventAt events j) + job .time ≤ eventTick (eventAt events i)
+  pub slot : eventSlot (eventAt events i) < job .slots
+  pub symbol : eventSymbol (eventAt events i) ≡ free → ⊥
+  pub unheld : (r : ℕ) → r < job .slots → held job (take i events) (eventTick (eventAt events i)) r ≡ eventSymbol (eventAt events i) → ⊥
+  pub in-time : eventTick (eventAt events i) < end
 
 -- A sheet is right for the bytes of a job and a list and for the places lent: job and list can be read, the places suffice, the events
 -- are in order, each may begin, and each draw is made as it must be.
