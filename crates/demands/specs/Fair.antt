@@ -27,7 +27,7 @@ eventAt events i = getD events i (event 0 0 0)
 -- Event i may begin, on a sheet that is over at tick `end`.
 --     idle       each event before it began F ticks before it, or more
 --     slot       its slot is one of the job's
---     symbol     its symbol is one
+--     symbol     its symbol is not the mark of a free slot
 --     unheld     by the events before it, no slot holds that symbol at its tick
 --     in-time    its tick comes before the sheet is over
 pub record MayBegin (job : Job) (events : List Event) (i end : ℕ) : Type 0 where
