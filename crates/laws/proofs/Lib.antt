@@ -13,3 +13,4 @@ pub mod Counts
 pub mod Along
 pub mod Checks
 pub mod Events
+pub mod Goes
