@@ -1,0 +1,44 @@
+-- The one search, `place`, by its two outcomes, and after a slot was written.
+use Prim.Native.Nat.{ℕ, zero, suc, _+_, _-_, _<_, _≤_}
+use native.Mathlib.Omega.{arith}
+use mathlib.Core.Path.{_≡_, refl, sym, ap, _∙_}
+use mathlib.Core.Bool.{Bool, true, false, cond}
+use mathlib.Core.List.{List, [], _∷_}
+use lib.ListN.{length, getD, set}
+use lib.Dec.{eqb, ltb}
+use borrow.Author.Tests.{ltb-true, ltb-false, lt-ltb, le-ltb, eqb-true, eqb-false, eq-eqb, ne-eqb}
+use Rattle.rules.specs.Basics.{place, stands}
+use Rattle.laws.proofs.Cases.{by-test}
+
+-- A search ends at the first place where it can, and else goes one further.
+pub place-here : (x y : ℕ) (l : List ℕ) → x ≡ y → place x (y ∷ l) ≡ 0
+unfolding place
+place-here x y l e = rw (eq-eqb x y e)
+
+pub place-further : (x y : ℕ) (l : List ℕ) → (x ≡ y → ⊥) → place x (y ∷ l) ≡ suc (place x l)
+unfolding place
+place-further x y l e = rw (ne-eqb x y e)
+
+-- A search never passes the end of its row.
+pub place-most : (x : ℕ) (l : List ℕ) → place x l ≤ length l
+unfolding place
+place-most x [] = omega arith
+place-most x (y ∷ l) =
+    let more : place x l ≤ length l = place-most x l in
+    by-test (eqb x y) (λ e. rw e (omega arith)) (λ e. rw e (omega arith))
+
+-- What stands at the place found is what was looked for.
+pub place-holds : (x : ℕ) (l : List ℕ) → place x l < length l → getD l (place x l) 0 ≡ x
+unfolding place
+place-holds x [] h = absurd (omega arith)
+place-holds x (y ∷ l) h =
+    by-test (eqb x y) (λ e. rw e (sym (eqb-true x y e))) (λ e. rw e (place-holds x l (omega (arith, rw e at h))))
+
+-- Whoever stands at a place is found there or before.
+pub place-at : (x : ℕ) (l : List ℕ) (i : ℕ) → i < length l → getD l i 0 ≡ x → place x l ≤ i
+unfolding place
+place-at x [] i h e = absurd (omega arith)
+place-at x (y ∷ l) zero h e = rw (eq-eqb x y (sym e)) (omega arith)
+place-at x (y ∷ l) (suc i) h e =
+    let more : place x l ≤ i = place-at x l i (omega arith) e in
+    by-test (eqb x y) (λ e. rw e (omega arith)) (λ e. rw e (omega arith))
