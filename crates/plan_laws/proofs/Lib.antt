@@ -2,3 +2,4 @@ pub mod Search
 pub mod Counting
 pub mod Choice
 pub mod Misses
+pub mod Against

@@ -1,0 +1,162 @@
+-- Opt against any other run, by counting useful slots. Opt is taken draw by draw; of the other run only its slots and the number of its
+-- loads that have ended are looked at, so any list is in it, whatever it loads and whenever.
+use Prim.Native.Nat.{ℕ, zero, suc, _+_, _-_, _<_, _≤_}
+use native.Mathlib.Omega.{arith}
+use mathlib.Core.Path.{_≡_, refl, sym, ap, _∙_}
+use mathlib.Core.Bool.{Bool, true, false, cond, _||_}
+use mathlib.Core.List.{List, [], _∷_}
+use lib.ListN.{length, getD, set, length-set}
+use lib.Dec.{eqb, ltb}
+use borrow.Author.Tests.{ltb-true, ltb-false, eqb-true, eqb-false}
+use Rattle.rules.specs.Basics.{place, stands}
+use Rattle.rules.specs.Job.{free}
+use Rattle.rules.specs.Plans.{furthest}
+use Rattle.laws.proofs.Cases.{by-test}
+use Rattle.laws.proofs.Symbols.{stands-cons}
+use Rattle.plan_laws.proofs.Search.{place-cons-most}
+use Rattle.plan_laws.proofs.Counting.{total, total-set, total-set-most, soon, soon-yes, soon-not, soon-place, soon-most, useful, useful-most, useful-none, same, holders, holders-found, holders-unfound, drawn-held, drawn-once, drawn-unheld}
+use Rattle.plan_laws.proofs.Choice.{chosen-below, chosen-useful, drawn-symbol}
+use Rattle.plan_laws.proofs.Misses.{misses, misses-hit, misses-miss}
+
+-- No symbol stands in two slots.
+abbrev pub Once : List ℕ → Type 0
+Once slots = (x : ℕ) → (x ≡ free → ⊥) → holders x slots ≤ 1
+
+same-most : (x y : ℕ) → same x y ≤ 1
+same-most x y = by-test (eqb x y) (λ e. rw e (omega arith)) (λ e. rw e (omega arith))
+
+-- That stays so where a slot takes a symbol that no slot held.
+once-set : (slots : List ℕ) (q y : ℕ) → Once slots → stands y slots ≡ false → Once (set slots q y)
+once-set slots q y once missing x symbol =
+    by-test (eqb x y)
+    (λ e.
+    let none : holders x slots ≡ 0 = rw (eqb-true x y e) (holders-unfound y slots missing) in
+    omega (arith, total-set-most (same x) slots q y, same-most x y))
+    (λ e. omega (arith, rw e at (total-set-most (same x) slots q y), once x symbol))
+
+-- Opt against a run with these draws to come, these slots and so many loads ended: opt, taken to the same draw, has made so many loads,
+-- and however many draws one looks ahead, its loads and the other's useful slots are no more than the other's ended loads and its own.
+pub record Behind (whole next : ℕ) (rest slots : List ℕ) (ended : ℕ) : Type 0 where
+  pub contents : List ℕ
+  pub made : ℕ
+  pub size : length contents ≡ length slots
+  pub once : Once contents
+  pub all : made + length (misses next contents rest) ≡ whole
+  pub count : (j : ℕ) → j ≤ length rest → made + useful slots rest j ≤ ended + useful contents rest j
+
+-- At the start the slots are the same.
+pub behind-start : (rest slots : List ℕ) → Once slots → Behind (length (misses 0 slots rest)) 0 rest slots 0
+behind-start rest slots once =
+    record { contents = slots; made = 0; size = refl; once = once; all = omega arith; count = λ j few. omega arith }
+
+module _ (whole next : ℕ) (rest slots : List ℕ) (ended : ℕ) (before : Behind whole next rest slots ended) where
+  -- A load that ends puts one symbol into a slot and is one more that has ended.
+  pub behind-lands : (q x : ℕ) → Behind whole next rest (set slots q x) (ended + 1)
+  behind-lands q x =
+      record {
+        contents = before .contents;
+        made = before .made;
+        size = before .size ∙ sym (length-set slots q x);
+        once = before .once;
+        all = before .all;
+        count = λ j few.
+            omega (arith, before .count j few, total-set-most (soon rest j) slots q x, soon-most rest j x);
+      }
+
+  -- A load that begins leaves its slot free, and a free slot is not useful.
+  pub behind-begins : (q : ℕ) → stands free rest ≡ false → Behind whole next rest (set slots q free) ended
+  behind-begins q drawable =
+      record {
+        contents = before .contents;
+        made = before .made;
+        size = before .size ∙ sym (length-set slots q free);
+        once = before .once;
+        all = before .all;
+        count = λ j few.
+            let far : length rest ≤ place free rest = ltb-false (place free rest) (length rest) drawable in
+            omega (arith, before .count j few, total-set-most (soon rest j) slots q free, soon-not rest j free (omega arith));
+      }
+
+-- At the end opt has made no more loads than have ended.
+pub behind-over : (whole next : ℕ) (slots : List ℕ) (ended : ℕ) → Behind whole next [] slots ended → whole ≤ ended
+unfolding misses
+behind-over whole next slots ended before =
+    omega (arith, before .all, before .count 0 (omega arith), useful-none (before .contents) [])
+
+module _ (whole next x : ℕ) (rest slots : List ℕ) (ended : ℕ) (before : Behind whole next (x ∷ rest) slots ended)
+    (symbol : x ≡ free → ⊥) (held : stands x slots ≡ true) where
+  some-hold : 0 < holders x slots
+  some-hold = holders-found x slots held
+
+  -- A draw that opt hits too.
+  behind-hit : stands x (before .contents) ≡ true → Behind whole (next + 1) rest slots ended
+  behind-hit hit =
+      record {
+        contents = before .contents;
+        made = before .made;
+        size = before .size;
+        once = before .once;
+        all = rw (misses-hit next (before .contents) x rest hit) at (before .all);
+        count = λ j few.
+            omega (
+              arith,
+              before .count (suc j) (omega arith),
+              drawn-held x rest j slots some-hold,
+              drawn-once x rest j (before .contents) (before .once x symbol),
+            );
+      }
+
+  module _ (drawable : stands free (x ∷ rest) ≡ false) (missing : stands x (before .contents) ≡ false) where
+    abbrev slot : ℕ
+    slot = furthest (x ∷ rest) (before .contents)
+
+    some-slot : 0 < length (before .contents)
+    some-slot = omega (arith, before .size, ltb-true (place x slots) (length slots) held)
+
+    unheld : (j : ℕ) → useful (before .contents) (x ∷ rest) (suc j) ≡ useful (before .contents) rest j
+    unheld j = drawn-unheld x rest j (before .contents) (holders-unfound x (before .contents) missing)
+
+    -- Where the draw is one that opt misses, opt is a load behind already.
+    load-behind : before .made + 1 ≤ ended
+    load-behind =
+        omega (
+          arith,
+          before .count 1 (omega arith),
+          drawn-held x rest 0 slots some-hold,
+          soon-not rest 0 x (omega arith),
+          unheld 0,
+          useful-none (before .contents) rest,
+        )
+
+    -- What opt puts into the slot makes up for its load, unless what goes out is drawn soon: then every slot of opt's is useful.
+    count-miss : (j : ℕ) → j ≤ length rest → before .made + 1 + useful slots rest j ≤ ended + useful (set (before .contents) slot x) rest j
+    count-miss j few =
+        let z : ℕ = getD (before .contents) slot 0 in
+        let written : useful (set (before .contents) slot x) rest j + soon rest j z ≡ useful (before .contents) rest j + soon rest j x =
+        total-set (soon rest j) (before .contents) slot x (chosen-below (x ∷ rest) (before .contents) some-slot) in
+        let held-now : useful slots rest j + 1 ≤ useful slots (x ∷ rest) (suc j) + soon rest j x = drawn-held x rest j slots some-hold in
+        let same-count : useful (before .contents) (x ∷ rest) (suc j) ≡ useful (before .contents) rest j = unheld j in
+        by-test (ltb 0 (soon rest j z))
+        (λ e.
+        let near : place z rest < j = soon-place rest j z (ltb-true 0 (soon rest j z) e) in
+        let near-too : soon (x ∷ rest) (suc j) z ≡ 1 = soon-yes (x ∷ rest) (suc j) z (omega (arith, place-cons-most z x rest)) in
+        let full : useful (before .contents) (x ∷ rest) (suc j) ≡ length (before .contents) =
+        chosen-useful (x ∷ rest) (before .contents) (suc j) drawable (omega arith) (omega arith) in
+        let size : length (before .contents) ≡ length slots = before .size in
+        omega (arith, useful-most slots (x ∷ rest) (suc j), load-behind, soon-most rest j z))
+        (λ e. omega (arith, before .count (suc j) (omega arith), ltb-false 0 (soon rest j z) e))
+
+    behind-miss : Behind whole (next + 1) rest slots ended
+    behind-miss =
+        record {
+          contents = set (before .contents) slot x;
+          made = before .made + 1;
+          size = length-set (before .contents) slot x ∙ before .size;
+          once = once-set (before .contents) slot x (before .once) missing;
+          all = omega (arith, rw (misses-miss next (before .contents) x rest missing) at (before .all));
+          count = count-miss;
+        }
+
+  -- A draw: either way opt stays behind.
+  pub behind-draws : stands free (x ∷ rest) ≡ false → Behind whole (next + 1) rest slots ended
+  behind-draws drawable = by-test (stands x (before .contents)) behind-hit (behind-miss drawable)
