@@ -2,3 +2,8 @@ pub mod Cases
 pub mod Symbols
 pub mod Parts
 pub mod RoundTrip
+pub mod Search
+pub mod Moves
+pub mod Runs
+pub mod Jobs
+pub mod Sane
