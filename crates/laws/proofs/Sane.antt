@@ -152,7 +152,7 @@ module _ (job : Job) (next : ℕ) (rest slots : List ℕ) where
         under = h .under;
       }
 
-sane-moves : (job : Job) (rule : Rule) → 1 ≤ job .time → Moves job rule (SaneState job) (SaneState job) (SaneState job)
+pub sane-moves : (job : Job) (rule : Rule) → 1 ≤ job .time → Moves job rule (SaneState job) (SaneState job) (SaneState job)
 sane-moves job rule some-time =
     record {
       lands = λ s more h. sane-lands job (s .next) (s .rest) (s .slots) (s .loading) h;
@@ -162,7 +162,7 @@ sane-moves job rule some-time =
       waits = λ s w h. h;
     }
 
-sane-start : (job : Job) → Proper job → SaneState job (start job)
+pub sane-start : (job : Job) → Proper job → SaneState job (start job)
 sane-start job p =
     record {
       ahead = refl;
