@@ -12,7 +12,8 @@ use Rattle.rules.specs.Basics.{place, stands}
 use Rattle.rules.specs.Job.{free}
 use Rattle.rules.specs.Plans.{rank, greatest, furthest}
 use Rattle.laws.proofs.Cases.{by-test}
-use Rattle.plan_laws.proofs.Search.{place-here, place-further, place-most, place-holds}
+use Rattle.laws.proofs.Search.{place-holds}
+use Rattle.plan_laws.proofs.Search.{place-here, place-further}
 use Rattle.plan_laws.proofs.Counting.{total, total-full, soon, soon-yes, soon-place, useful}
 
 getD-map : (f : ℕ → ℕ) (l : List ℕ) (i : ℕ) → i < length l → getD (map f l) i 0 ≡ f (getD l i 0)

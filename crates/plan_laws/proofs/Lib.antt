@@ -3,3 +3,4 @@ pub mod Counting
 pub mod Choice
 pub mod Misses
 pub mod Against
+pub mod Keeping
