@@ -4,3 +4,4 @@ pub mod Choice
 pub mod Misses
 pub mod Against
 pub mod Keeping
+pub mod Clock
