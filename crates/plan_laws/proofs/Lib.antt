@@ -5,3 +5,4 @@ pub mod Misses
 pub mod Against
 pub mod Keeping
 pub mod Clock
+pub mod Replay
