@@ -3,7 +3,11 @@ pub mod Symbols
 pub mod Parts
 pub mod RoundTrip
 pub mod Search
+pub mod Rows
 pub mod Moves
 pub mod Runs
 pub mod Jobs
 pub mod Sane
+pub mod Counts
+pub mod Along
+pub mod Checks

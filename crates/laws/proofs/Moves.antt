@@ -1,21 +1,19 @@
 -- What a tick of the display does, move by move, and so what every run keeps: what holds at the start and is kept by each move
 -- holds of every state that a run comes to. The moves are the same for every rule.
-use Prim.Native.Nat.{ℕ, zero, suc, _+_, _<_, _≤_}
+use Prim.Native.Nat.{ℕ, zero, suc, _<_}
 use native.Mathlib.Omega.{arith}
-use mathlib.Core.Path.{_≡_, refl, sym, ap, subst, _∙_}
-use mathlib.Core.Bool.{Bool, true, false, cond, not, _&&_, _||_}
-use mathlib.Core.List.{List, [], _∷_, _++_}
-use lib.ListN.{length, getD, drop, set}
-use lib.Dec.{eqb, ltb}
+use mathlib.Core.Path.{_≡_, refl, subst}
+use mathlib.Core.Bool.{Bool, true, false}
+use mathlib.Core.List.{List, [], _∷_}
+use lib.ListN.{length}
+use lib.Dec.{eqb}
 use borrow.Author.Tests.{ltb-true, eqb-true, eqb-false}
 use Rattle.rules.specs.declared.Begun.{Begun}
 use Rattle.rules.specs.declared.Begun.the-variants.{Load, NoLoad}
 use Rattle.rules.specs.declared.Loading.{Loading}
 use Rattle.rules.specs.declared.Loading.the-variants.{Idle, Under}
-use Rattle.rules.specs.declared.Cause.{Cause}
-use Rattle.rules.specs.declared.Cause.the-variants.{Awaited, Another, Nothing}
 use Rattle.rules.specs.declared.Happening.{Happening}
-use Rattle.rules.specs.declared.Happening.the-variants.{Draw, Wait}
+use Rattle.rules.specs.declared.Happening.the-variants.{Wait}
 use Rattle.rules.specs.Basics.{place, stands}
 use Rattle.rules.specs.Job.{Job, free}
 use Rattle.rules.specs.Display.{State, Run, Rule, going, refused, land, begin, idle, loadable, loadNumber, beginning, awaited, causeOf, happeningOf, draw, wait, stuck, moved, happened, then, tick, finished, run}
@@ -151,3 +149,22 @@ reached job rule P L B keeps (suc t) s s′ p e =
     let on : then (tick job rule s) (run job rule t) ≡ going s′ = rw f at e in
     let (s₁, first, later) = then-going (tick job rule s) (run job rule t) s′ on in
     reached job rule P L B keeps t s₁ s′ (tick-kept job rule P L B P keeps s s₁ (is-more (s .rest) f) p first) later)
+
+-- The same upon what is known already: Q, R and S are kept by the moves, and so at each move they may be used for P, L and B.
+pub record Upon (job : Job) (rule : Rule) (Q R S P L B : State → Type 0) : Type 0 where
+  pub lands : (s : State) → 0 < length (s .rest) → Q s → P s → L (land s)
+  pub passes : (s : State) → 0 < length (s .rest) → rule .asks s ≡ NoLoad → R s → L s → B s
+  pub begins : (q x : ℕ) (s : State) → Begins job rule q x s → R s → L s → B (begin job q x s)
+  pub draws : (q : ℕ) (s : State) → Draws q s → S s → B s → P (draw q s)
+  pub waits : (s : State) → Waits rule s → S s → B s → P (wait s)
+
+pub upon : (job : Job) (rule : Rule) (Q R S P L B : State → Type 0) → Moves job rule Q R S → Upon job rule Q R S P L B
+    → Moves job rule (λ s. Q s × P s) (λ s. R s × L s) (λ s. S s × B s)
+upon job rule Q R S P L B known new =
+    record {
+      lands = λ s more h. (known .lands s more (h .0), new .lands s more (h .0) (h .1));
+      passes = λ s more a h. (known .passes s more a (h .0), new .passes s more a (h .0) (h .1));
+      begins = λ q x s b h. (known .begins q x s b (h .0), new .begins q x s b (h .0) (h .1));
+      draws = λ q s d h. (known .draws q s d (h .0), new .draws q s d (h .0) (h .1));
+      waits = λ s w h. (known .waits s w (h .0), new .waits s w (h .0) (h .1));
+    }

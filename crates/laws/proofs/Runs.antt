@@ -1,9 +1,8 @@
 -- Runs put together and taken apart: the states on the way of a run, and a finished run, which stands still.
 use Prim.Native.Nat.{ℕ, zero, suc, _+_, _-_, _<_, _≤_}
 use native.Mathlib.Omega.{arith}
-use mathlib.Core.Path.{_≡_, refl, sym, ap, subst, fun-ext, _∙_}
-use mathlib.Core.Bool.{Bool, true, false, cond}
-use mathlib.Core.List.{List, [], _∷_}
+use mathlib.Core.Path.{_≡_, refl, sym, ap, _∙_}
+use mathlib.Core.Bool.{true, false}
 use lib.ListN.{length}
 use Rattle.rules.specs.Job.{Job}
 use Rattle.rules.specs.Display.{State, Run, Rule, going, refused, then, tick, finished, run}

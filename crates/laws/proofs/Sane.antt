@@ -3,7 +3,7 @@
 use Prim.Native.Nat.{ℕ, zero, suc, _+_, _-_, _<_, _≤_}
 use native.Mathlib.Omega.{arith}
 use mathlib.Core.Path.{_≡_, refl, sym, ap, _∙_}
-use mathlib.Core.Bool.{Bool, true, false, cond, not, _&&_, _||_}
+use mathlib.Core.Bool.{true, false, not, _&&_}
 use mathlib.Core.List.{List, [], _∷_}
 use lib.ListN.{length, getD, drop, set, length-set, length-drop}
 use lib.Seq.{getD-set-same, getD-set-other, getD-drop, drop-drop}
@@ -11,13 +11,13 @@ use lib.Dec.{eqb}
 use borrow.Author.Tests.{eqb-true, eqb-false, ne-eqb}
 use Rattle.rules.specs.declared.Loading.{Loading}
 use Rattle.rules.specs.declared.Loading.the-variants.{Idle, Under}
-use Rattle.rules.specs.Basics.{place, stands}
+use Rattle.rules.specs.Basics.{stands}
 use Rattle.rules.specs.Job.{Job, free}
-use Rattle.rules.specs.Display.{State, Run, Rule, going, start, landedSlots, landedLoading, run}
+use Rattle.rules.specs.Display.{State, Rule, going, start, landedSlots, landedLoading, run}
 use Rattle.rules.specs.Refusals.{doubled}
 use Rattle.laws.proofs.Cases.{by-test, neither}
 use Rattle.laws.proofs.Search.{absent-at, absent-set, present}
-use Rattle.laws.proofs.Moves.{Begins, Draws, Waits, Moves, reached}
+use Rattle.laws.proofs.Moves.{Moves, reached, Upon, upon}
 use Rattle.laws.proofs.Jobs.{Proper}
 
 -- No symbol stands in two slots. Several may hold nothing.
@@ -85,16 +85,23 @@ pub record Sane (job : Job) (next : ℕ) (rest slots : List ℕ) (loading : Load
 abbrev pub SaneState : Job → State → Type 0
 SaneState job s = Sane job (s .next) (s .rest) (s .slots) (s .loading)
 
-none-under : {A : Type 0} (left q x : ℕ) → Idle ≡ Under left q x → A
+-- An idle loader has no load under way, and one at work has one.
+pub none-under : {A : Type 0} (left q x : ℕ) → Idle ≡ Under left q x → A
 none-under left q x e = let z : _≡_ {A = ℕ} 0 1 = cc in absurd (omega arith)
 
-same-load : (job : Job) (slots : List ℕ) (left q x left′ q′ x′ : ℕ) → Underway job slots left q x → Under left q x ≡ Under left′ q′ x′
-    → Underway job slots left′ q′ x′
-same-load job slots left q x left′ q′ x′ u e =
+pub one-under : (P : ℕ → ℕ → ℕ → Type 0) (left q x left′ q′ x′ : ℕ) → P left q x → Under left q x ≡ Under left′ q′ x′ → P left′ q′ x′
+one-under P left q x left′ q′ x′ p e =
     let e₁ : left ≡ left′ = cc in
     let e₂ : q ≡ q′ = cc in
     let e₃ : x ≡ x′ = cc in
-    rw (← e₁, ← e₂, ← e₃) u
+    rw (← e₁, ← e₂, ← e₃) p
+
+-- The draws made and those that remain are the job's.
+pub remaining : (job : Job) (next : ℕ) (rest slots : List ℕ) (loading : Loading) → Sane job next rest slots loading
+    → next + length rest ≡ length (job .draws)
+remaining job next rest slots loading h =
+    let left : length rest ≡ length (job .draws) - next = ap length (h .ahead) ∙ length-drop next (job .draws) in
+    omega arith
 
 module _ (job : Job) (next : ℕ) (rest slots : List ℕ) where
   sane-lands : (loading : Loading) → Sane job next rest slots loading
@@ -118,7 +125,7 @@ module _ (job : Job) (next : ℕ) (rest slots : List ℕ) where
         within = h .within;
         row = h .row;
         apart = h .apart;
-        under = λ left′ q′ x′ e. same-load job slots left q x left′ q′ x′ v e;
+        under = λ left′ q′ x′ e. one-under (Underway job slots) left q x left′ q′ x′ v e;
       }
 
   sane-begins : (q x : ℕ) → 1 ≤ job .time → q < job .slots → (x ≡ free → ⊥) → stands x slots ≡ false → (loading : Loading)
@@ -138,12 +145,12 @@ module _ (job : Job) (next : ℕ) (rest slots : List ℕ) where
         within = h .within;
         row = length-set slots q free ∙ h .row;
         apart = apart-set slots q free (h .apart) (λ f. absurd (f refl));
-        under = λ left′ q′ x′ e. same-load job (set slots q free) (job .time - 1) q x left′ q′ x′ u e;
+        under = λ left′ q′ x′ e. one-under (Underway job (set slots q free)) (job .time - 1) q x left′ q′ x′ u e;
       }
 
   sane-draws : (loading : Loading) → 0 < length rest → Sane job next rest slots loading → Sane job (next + 1) (drop 1 rest) slots loading
   sane-draws loading more h =
-      let left : length rest ≡ length (job .draws) - next = ap length (h .ahead) ∙ length-drop next (job .draws) in
+      let left : next + length rest ≡ length (job .draws) = remaining job next rest slots loading h in
       record {
         ahead = rw (h .ahead) (drop-drop 1 next (job .draws));
         within = omega arith;
@@ -177,6 +184,17 @@ pub sane : (job : Job) (rule : Rule) → Proper job → (t : ℕ) (s : State) �
 sane job rule p t s e =
     reached job rule (SaneState job) (SaneState job) (SaneState job) (sane-moves job rule (p .some-time)) t (start job) s (sane-start job p) e
 
+-- So what else a run keeps may be shown of sane states only.
+abbrev pub SaneMoves : Job → Rule → (State → Type 0) → (State → Type 0) → (State → Type 0) → Type 0
+SaneMoves job rule P L B = Upon job rule (SaneState job) (SaneState job) (SaneState job) P L B
+
+pub reached-sanely : (job : Job) (rule : Rule) (P L B : State → Type 0) → Proper job → SaneMoves job rule P L B → P (start job)
+    → (t : ℕ) (s : State) → run job rule t (start job) ≡ going s → P s
+reached-sanely job rule P L B p keeps begins t s e =
+    reached job rule _ _ _
+    (upon job rule (SaneState job) (SaneState job) (SaneState job) P L B (sane-moves job rule (p .some-time)) keeps)
+    t (start job) s (sane-start job p, begins) e .1
+
 -- The slots with the load under way counted as landed. No symbol stands in two of them either.
 abbrev pub settled : Loading → List ℕ → List ℕ
 settled Idle slots = slots
@@ -196,5 +214,5 @@ awaited-is job next rest slots loading h =
 pub awaited-symbol : (job : Job) (next : ℕ) (rest slots : List ℕ) (loading : Loading) → Proper job → Sane job next rest slots loading
     → 0 < length rest → getD rest 0 0 ≡ free → ⊥
 awaited-symbol job next rest slots loading p h more e =
-    let left : length rest ≡ length (job .draws) - next = ap length (h .ahead) ∙ length-drop next (job .draws) in
+    let left : next + length rest ≡ length (job .draws) = remaining job next rest slots loading h in
     absent-at free (job .draws) (p .drawable) next (omega arith) (sym (awaited-is job next rest slots loading h) ∙ e)
