@@ -2,7 +2,7 @@
 -- a draw would wait with none under way, its run is never refused, and it ends soon after its last load.
 use Prim.Native.Nat.{ℕ, zero, suc, _+_, _*_, _-_, _<_, _≤_}
 use native.Mathlib.Omega.{arith}
-use native.Mathlib.Nat.{mul-le-mul, mul-add, mul-one}
+use native.Mathlib.Nat.{mul-le-mul}
 use mathlib.Core.Path.{_≡_, refl, sym, ap, subst, _∙_}
 use mathlib.Core.Bool.{Bool, true, false, cond, not, _&&_, _||_}
 use mathlib.Core.List.{List, [], _∷_}
@@ -26,33 +26,9 @@ use Rattle.laws.proofs.Cases.{by-test}
 use Rattle.laws.proofs.Moves.{Begins, Draws, Waits, Moves, Steps, reached, tick-kept, is-more, is-over}
 use Rattle.laws.proofs.Runs.{run-then, run-finished, run-unfinished, run-ticks}
 use Rattle.laws.proofs.Jobs.{Proper}
-use Rattle.laws.proofs.Sane.{SaneState, Sane, sane-moves, sane-start, settled}
-
--- What a law beside sanity has to show: it is kept by each move of a sane state.
-pub record Kept (job : Job) (rule : Rule) (P : State → Type 0) : Type 0 where
-  pub lands : (s : State) → P s → P (land s)
-  pub begins : (q x : ℕ) (s : State) → Begins job rule q x s → SaneState job s → P s → P (begin job q x s)
-  pub draws : (q : ℕ) (s : State) → Draws q s → SaneState job s → P s → P (draw q s)
-  pub waits : (s : State) → P s → P (wait s)
-
-module _ (job : Job) (proper : Proper job) (rule : Rule) (P : State → Type 0) (keeps : Kept job rule P) where
-  abbrev Both : State → Type 0
-  Both s = SaneState job s × P s
-
-  both-moves : Moves job rule Both Both Both
-  both-moves =
-      let sane : Moves job rule (SaneState job) (SaneState job) (SaneState job) = sane-moves job rule (proper .some-time) in
-      record {
-        lands = λ s more h. (sane .lands s more (h .0), keeps .lands s (h .1));
-        passes = λ s more a h. h;
-        begins = λ q x s b h. (sane .begins q x s b (h .0), keeps .begins q x s b (h .0) (h .1));
-        draws = λ q s d h. (sane .draws q s d (h .0), keeps .draws q s d (h .0) (h .1));
-        waits = λ s w h. (sane .waits s w (h .0), keeps .waits s (h .1));
-      }
-
-  -- What holds at the start and is kept by each move of a sane state holds of every state that a run comes to.
-  pub kept : P (start job) → (t : ℕ) (s : State) → run job rule t (start job) ≡ going s → SaneState job s × P s
-  kept starts t s e = reached job rule Both Both Both both-moves t (start job) s (sane-start job proper, starts) e
+use Rattle.laws.proofs.Counts.{Counted, counted, elapsed}
+use Rattle.laws.proofs.Sane.{SaneState, SaneMoves, Sane, sane, sane-moves, reached-sanely}
+use Rattle.plan_laws.proofs.Clock.{waits-few}
 
 -- A load that the display takes.
 pub load-permitted : (job : Job) (q x : ℕ) (s : State) → idle (s .loading) ≡ true → q < job .slots → (x ≡ free → ⊥)
@@ -89,3 +65,71 @@ module _ (job : Job) (asks : State → Begun) (s : State) (ready : Ready job ask
   pub goes-on : (s′ : State) × (tick job (asking asks) s ≡ going s′)
   unfolding tick
   goes-on = begins-or-not (asks (land s)) refl
+
+-- A plan that is done: every draw is made, with at most a load to each draw and at most F waits to each load. So elapsed is at most n + F · n,
+-- far below the last tick that a list can name.
+pub record Done (job : Job) (rule : Rule) (P : State → Type 0) : Type 0 where
+  pub last : State
+  pub ran : runPlan job rule ≡ going last
+  pub over : last .rest ≡ []
+  pub few : last .loads ≤ length (job .draws)
+  pub prompt : last .waits ≤ job .time * last .loads
+  pub whole : last .tick ≡ length (job .draws) + last .waits
+  pub kept : P last
+
+-- A plan's run, for what its moves keep beside sanity and what makes it ready.
+module _ (job : Job) (proper : Proper job) (asks : State → Begun) (P : State → Type 0)
+    (keeps : SaneMoves job (asking asks) P P P) (starts : P (start job))
+    (ready : (s : State) → 0 < length (s .rest) → SaneState job s → P s → Ready job asks s) where
+  holds : (t : ℕ) (s : State) → run job (asking asks) t (start job) ≡ going s → P s
+  holds t s e = reached-sanely job (asking asks) P P P proper keeps starts t s e
+
+  next-tick : (t : ℕ) (s : State) → run job (asking asks) t (start job) ≡ going s → 0 < length (s .rest)
+      → (s′ : State) × (tick job (asking asks) s ≡ going s′)
+  next-tick t s e more =
+      let here : SaneState job s = sane job (asking asks) proper t s e in
+      let landed : SaneState job (land s) = sane-moves job (asking asks) (proper .some-time) .lands s more here in
+      goes-on job asks s (ready (land s) more landed (keeps .lands s more here (holds t s e)))
+
+  one-more : (s : State) → (0 < length (s .rest) → (s′ : State) × (tick job (asking asks) s ≡ going s′))
+      → (s′ : State) × (run job (asking asks) 1 s ≡ going s′)
+  unfolding run
+  one-more s h =
+      by-test (finished (s .rest))
+      (λ f. (s, run-finished job (asking asks) 1 s f))
+      (λ f. let (s′, e) = h (is-more (s .rest) f) in (s′, run-unfinished job (asking asks) 0 s f ∙ rw e))
+
+  -- It is never refused.
+  pub never-refused : (t : ℕ) → (s : State) × (run job (asking asks) t (start job) ≡ going s)
+  never-refused zero = (start job, unfold run in refl)
+  never-refused (suc t) =
+      let (s, e) = never-refused t in
+      let (s′, f) = one-more s (next-tick t s e) in
+      let later : t + 1 ≡ suc t = omega arith in
+      (s′, rw (← later, run-then job (asking asks) t 1 (start job), e) f)
+
+  -- It is done in time where it makes no more loads than there are draws.
+  pub done : ((s : State) → SaneState job s → P s → s .loads ≤ length (job .draws)) → Done job (asking asks) P
+  done few =
+      let (s, e) = never-refused last-tick in
+      let here : SaneState job s = sane job (asking asks) proper last-tick s e in
+      let loads : s .loads ≤ length (job .draws) = few s here (holds last-tick s e) in
+      let prompt : s .waits ≤ job .time * s .loads = waits-few job asks (proper .some-time) last-tick s e in
+      let ticks : s .tick ≡ s .next + s .waits = counted job (asking asks) proper last-tick s e .ticks in
+      let over : s .rest ≡ [] =
+      by-test (finished (s .rest)) (is-over (s .rest))
+      (λ f.
+      let full : s .tick ≡ 0 + last-tick = run-ticks job (asking asks) last-tick (start job) s e (is-more (s .rest) f) in
+      let drawn : s .next ≤ length (job .draws) = here .within in
+      let limit : length (job .draws) ≤ 4096 = proper .few-draws in
+      let product : job .time * s .loads ≤ 1000 * 4096 = mul-le-mul {n₂ = 1000} {m₂ = 4096} (proper .little-time) (omega arith) in
+      absurd (omega arith)) in
+      record {
+        last = s;
+        ran = e;
+        over = over;
+        few = loads;
+        prompt = prompt;
+        whole = elapsed job (asking asks) proper last-tick s e over;
+        kept = holds last-tick s e;
+      }

@@ -3,6 +3,6 @@ pub mod Counting
 pub mod Choice
 pub mod Misses
 pub mod Against
-pub mod Keeping
 pub mod Clock
+pub mod Keeping
 pub mod Replay
