@@ -5,4 +5,5 @@ pub mod Misses
 pub mod Against
 pub mod Clock
 pub mod Keeping
+pub mod Rising
 pub mod Replay
