@@ -7,7 +7,7 @@ use mathlib.Core.Bool.{Bool, true, false, cond}
 use mathlib.Core.List.{List, [], _∷_, map}
 use lib.ListN.{length, getD, length-map}
 use lib.Dec.{eqb, ltb}
-use borrow.Author.Tests.{ltb-true, ltb-false, ne-eqb}
+use borrow.Author.Tests.{ltb-true, ltb-false, eqb-true, ne-eqb}
 use Rattle.rules.specs.Basics.{place, stands}
 use Rattle.rules.specs.Job.{free}
 use Rattle.rules.specs.Plans.{rank, greatest, furthest}
@@ -68,6 +68,15 @@ rank-symbol row x h = rw (ne-eqb x free h)
 
 rank-least : (row : List ℕ) (x : ℕ) → rank row x ≤ length row → place x row ≤ rank row x
 rank-least row x h = by-test (eqb x free) (λ e. absurd (omega (arith, rw e at h))) (λ e. rw e (omega arith))
+
+-- What comes up at p or later comes up no earlier by its place, whether it is a symbol or marks a free slot.
+pub rank-place : (row : List ℕ) (x p : ℕ) → stands free row ≡ false → p ≤ length row → p ≤ rank row x → p ≤ place x row
+rank-place row x p none few far =
+    by-test (eqb x free)
+    (λ e.
+    let same : place x row ≡ place free row = ap (λ (y : ℕ). place y row) (eqb-true x free e) in
+    omega (arith, ltb-false (place free row) (length row) none))
+    (λ e. rw e at far)
 
 -- A symbol that is drawn is not the mark of a free slot.
 pub drawn-symbol : (row : List ℕ) (x : ℕ) → stands free row ≡ false → place x row < length row → x ≡ free → ⊥

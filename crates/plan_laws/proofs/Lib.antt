@@ -5,5 +5,9 @@ pub mod Misses
 pub mod Against
 pub mod Clock
 pub mod Keeping
+pub mod States
 pub mod Rising
+pub mod Asking
+pub mod OnDemand
+pub mod Aggressive
 pub mod Replay

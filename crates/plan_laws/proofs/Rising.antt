@@ -19,9 +19,8 @@ use Rattle.laws.proofs.Cases.{by-test}
 use Rattle.laws.proofs.Moves.{Begins, Draws, Waits, Moves}
 use Rattle.laws.proofs.Jobs.{Proper}
 use Rattle.laws.proofs.Sane.{Sane, SaneState, SaneMoves, Underway, settled, awaited-symbol, remaining}
+use Rattle.plan_laws.proofs.States.{settled-landed, settled-holds}
 use Rattle.plan_laws.proofs.Search.{place-here, place-further, stands-new, stands-kept}
-
--- ---- The first missing draw
 
 missing-hit : (slots : List ℕ) (x : ℕ) (rest : List ℕ) → stands x slots ≡ true → missing slots (x ∷ rest) ≡ suc (missing slots rest)
 unfolding missing
@@ -75,26 +74,6 @@ missing-later slots (y ∷ rest) q x h less far symbol =
     let now : missing slots (y ∷ rest) ≡ 0 = missing-miss slots y rest e in
     let same : y ≡ x = rw now at symbol in
     omega (arith, missing-hit (set slots q x) y rest (rw same (stands-new slots q x h))))
-
--- ---- The slots with the load under way counted as landed
-
-pub settled-landed : (loading : Loading) (slots : List ℕ) → settled (landedLoading loading) (landedSlots loading slots) ≡ settled loading slots
-settled-landed Idle slots = refl
-settled-landed (Under zero q x) slots = refl
-settled-landed (Under (suc left) q x) slots = refl
-
--- A load that begins puts its symbol into its slot.
-pub settled-begun : (loading : Loading) (slots : List ℕ) (q x : ℕ) → loading ≡ Idle → set (set slots q free) q x ≡ set (settled loading slots) q x
-settled-begun loading slots q x quiet = rw quiet (set-set slots q free x)
-
--- A symbol that a slot holds stands among them too.
-pub settled-holds : (job : Job) (next : ℕ) (rest slots : List ℕ) (loading : Loading) (x : ℕ) → Sane job next rest slots loading → (x ≡ free → ⊥)
-    → stands x slots ≡ true → stands x (settled loading slots) ≡ true
-settled-holds job next rest slots Idle x h symbol held = held
-settled-holds job next rest slots (Under left q y) x h symbol held =
-    stands-kept slots q y x held (λ e. symbol (sym e ∙ h .under left q y refl .empty))
-
--- ---- At most one load to each draw
 
 -- So many loads, and the first missing draw is not before the draw of that number.
 abbrev pub Rising : State → Type 0

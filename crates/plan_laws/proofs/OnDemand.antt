@@ -1,0 +1,65 @@
+-- Plans that load on demand, opt and lru: what they keep, whichever slot they take.
+use Prim.Native.Nat.{ℕ, zero, suc, _+_, _-_, _<_, _≤_}
+use native.Mathlib.Omega.{arith}
+use mathlib.Core.Path.{_≡_, refl, sym, ap, _∙_}
+use mathlib.Core.Bool.{Bool, true, false, not, _&&_}
+use mathlib.Core.List.{List, [], _∷_}
+use lib.ListN.{length, getD, set}
+use borrow.Author.Tests.{not-true, not-false}
+use Rattle.rules.specs.declared.Begun.{Begun}
+use Rattle.rules.specs.declared.Begun.the-variants.{Load, NoLoad}
+use Rattle.rules.specs.declared.Loading.the-variants.{Idle, Under}
+use Rattle.rules.specs.Basics.{place, stands}
+use Rattle.rules.specs.Job.{Job, free}
+use Rattle.rules.specs.Display.{State, Rule, start, idle, awaited}
+use Rattle.rules.specs.Plans.{missing, furthest, ahead, behind, on-demand, opt, lru}
+use Rattle.laws.proofs.Moves.{Begins}
+use Rattle.laws.proofs.Jobs.{Proper}
+use Rattle.laws.proofs.Sane.{Sane, SaneState, SaneMoves, awaited-symbol}
+use Rattle.plan_laws.proofs.States.{chosen-slot}
+use Rattle.plan_laws.proofs.Asking.{asked-load, asked-none, both-true, other-false}
+use Rattle.plan_laws.proofs.Keeping.{Ready, load-permitted, Done, done}
+use Rattle.plan_laws.proofs.Rising.{Rising, rising-moves, rising-few, missing-now, missing-later}
+
+module _ (job : Job) (proper : Proper job) (slot : State → ℕ) (below : (s : State) → SaneState job s → slot s < job .slots) where
+  abbrev wanting : State → Bool
+  wanting s = idle (s .loading) && not (stands (awaited s) (s .slots))
+
+  -- In every sane state such a plan is ready.
+  demand-ready : (s : State) → 0 < length (s .rest) → SaneState job s → Ready job (on-demand slot .asks) s
+  demand-ready s more g =
+      record {
+        permitted = λ q x e.
+            let (test, to, symbol) = asked-load (wanting s) (slot s) (awaited s) q x e in
+            let (quiet, missed) = both-true (idle (s .loading)) (not (stands (awaited s) (s .slots))) test in
+            rw (← to, ← symbol)
+            (load-permitted job (slot s) (awaited s) s quiet (below s g)
+            (awaited-symbol job (s .next) (s .rest) (s .slots) (s .loading) proper g more)
+            (not-true _ missed));
+        served = λ e quiet.
+            not-false _ (other-false (idle (s .loading)) (not (stands (awaited s) (s .slots))) (asked-none (wanting s) (slot s) (awaited s) e) (ap idle quiet));
+      }
+
+  -- Its load is for the draw itself, which is missing before it and not after it.
+  demand-raises : (q x : ℕ) (s : State) → Begins job (on-demand slot) q x s → SaneState job s
+      → missing (s .slots) (s .rest) < missing (set (s .slots) q x) (s .rest)
+  demand-raises q x s b g =
+      let (test, to, symbol) = asked-load (wanting s) (slot s) (awaited s) q x (b .asks) in
+      let (quiet, missed) = both-true (idle (s .loading)) (not (stands (awaited s) (s .slots))) test in
+      let now : missing (s .slots) (s .rest) ≡ 0 = missing-now (s .slots) (s .rest) (b .more) (not-true _ missed) in
+      missing-later (s .slots) (s .rest) q x (rw (g .row) (b .slot)) (omega arith) (omega arith) (rw now symbol)
+
+  demand-moves : SaneMoves job (on-demand slot) Rising Rising Rising
+  demand-moves = rising-moves job (on-demand slot) proper demand-raises
+
+  -- So it is done in time.
+  pub demand-done : Done job (on-demand slot) Rising
+  demand-done =
+      done job proper (on-demand slot .asks) Rising demand-moves (omega arith) (λ s more g h. demand-ready s more g) (rising-few job)
+
+-- Opt and lru take the furthest slot along a row of draws.
+pub opt-done : (job : Job) → Proper job → Done job opt Rising
+opt-done job proper = demand-done job proper (λ s. furthest (ahead s) (s .slots)) (chosen-slot job proper ahead)
+
+pub lru-done : (job : Job) → Proper job → Done job (lru job) Rising
+lru-done job proper = demand-done job proper (λ s. furthest (behind job s) (s .slots)) (chosen-slot job proper (behind job))
