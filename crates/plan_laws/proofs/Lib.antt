@@ -10,4 +10,5 @@ pub mod Rising
 pub mod Asking
 pub mod OnDemand
 pub mod Aggressive
+pub mod OptLoads
 pub mod Replay

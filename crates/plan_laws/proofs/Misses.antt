@@ -4,7 +4,7 @@ use native.Mathlib.Omega.{arith}
 use mathlib.Core.Path.{_≡_, refl, sym, ap, _∙_}
 use mathlib.Core.Bool.{Bool, true, false, cond}
 use mathlib.Core.List.{List, [], _∷_}
-use lib.ListN.{length, getD, set}
+use lib.ListN.{length, getD, drop, set}
 use borrow.Author.Tests.{ltb-true, ltb-false}
 use Rattle.rules.specs.Basics.{place, stands}
 use Rattle.rules.specs.Plans.{furthest}
@@ -36,6 +36,10 @@ pub misses-miss : (d : ℕ) (slots : List ℕ) (x : ℕ) (rest : List ℕ) → s
 unfolding misses
 misses-miss d slots x rest h = rw h
 
+pub misses-over : (d : ℕ) (slots rest : List ℕ) → rest ≡ [] → misses d slots rest ≡ []
+unfolding misses
+misses-over d slots rest over = rw over
+
 -- At most one miss to each draw.
 pub misses-most : (d : ℕ) (slots rest : List ℕ) → length (misses d slots rest) ≤ length rest
 misses-most d slots [] = unfold misses in omega arith
@@ -54,8 +58,9 @@ pub record First (d : ℕ) (slots rest : List ℕ) (m q x : ℕ) (later : List M
   pub early : m ≤ d + place (getD slots q 0) rest → misses d (set slots q x) rest ≡ later
 
 no-first : (d : ℕ) (slots : List ℕ) (m : Miss) (later : List Miss) → misses d slots [] ≡ m ∷ later → ⊥
-unfolding misses
-no-first d slots m later e = let impossible : _≡_ {A = ℕ} 0 1 = cc in omega arith
+no-first d slots m later e =
+    let none : misses d slots [] ≡ [] = misses-over d slots [] refl in
+    let impossible : _≡_ {A = ℕ} 0 1 = cc in omega arith
 
 first-now : (d : ℕ) (slots : List ℕ) (y : ℕ) (rest : List ℕ) → 0 < length slots → stands y slots ≡ false
     → First d slots (y ∷ rest) d (furthest (y ∷ rest) slots) y (misses (d + 1) (set slots (furthest (y ∷ rest) slots) y) rest)
@@ -99,3 +104,16 @@ first d slots (y ∷ rest) m q x later h e =
     let symbol : y ≡ x = cc in
     let behind : misses (d + 1) (set slots (furthest (y ∷ rest) slots) y) rest ≡ later = cc in
     rw (← place, ← slot, ← symbol, ← behind) (first-now d slots y rest h missing))
+
+-- The next draw, hit or missed, where the draws that remain are not taken apart.
+pub misses-drawn : (d : ℕ) (slots rest : List ℕ) → 0 < length rest → stands (getD rest 0 0) slots ≡ true
+    → misses d slots rest ≡ misses (d + 1) slots (drop 1 rest)
+misses-drawn d slots [] more held = absurd (omega arith)
+misses-drawn d slots (x ∷ rest) more held = misses-hit d slots x rest held
+
+pub misses-now : (d : ℕ) (slots rest : List ℕ) → 0 < length slots → 0 < length rest → stands (getD rest 0 0) slots ≡ false
+    → misses d slots rest
+    ≡ miss d (furthest rest slots) (getD rest 0 0) ∷ misses d (set slots (furthest rest slots) (getD rest 0 0)) rest
+misses-now d slots [] some more missing = absurd (omega arith)
+misses-now d slots (x ∷ rest) some more missing =
+    rw (first-now d slots x rest some missing .early (omega arith)) (misses-miss d slots x rest missing)

@@ -1,0 +1,70 @@
+-- The loads that opt's run begins are its misses draw by draw, in their order.
+use Prim.Native.Nat.{ℕ, zero, suc, _+_, _-_, _<_, _≤_}
+use native.Mathlib.Omega.{arith}
+use mathlib.Core.Path.{_≡_, refl, sym, ap, _∙_}
+use mathlib.Core.Bool.{Bool, true, false, not, _&&_}
+use mathlib.Core.List.{List, [], _∷_, _++_, map, append-assoc, append-nil}
+use lib.ListN.{length, getD, drop, set}
+use lib.Seq.{set-set}
+use borrow.Author.Tests.{not-true}
+use Rattle.rules.specs.declared.Begun.the-variants.{Load, NoLoad}
+use Rattle.rules.specs.declared.Loading.{Loading}
+use Rattle.rules.specs.declared.Loading.the-variants.{Idle, Under}
+use Rattle.rules.specs.Basics.{place, stands}
+use Rattle.rules.specs.Job.{Job, free}
+use Rattle.rules.specs.Display.{State, Rule, Loaded, loaded, going, start, idle, awaited, run}
+use Rattle.rules.specs.Plans.{furthest, ahead, opt, runPlan, begunIn}
+use Rattle.laws.proofs.Rows.{map-snoc}
+use Rattle.laws.proofs.Moves.{Begins}
+use Rattle.laws.proofs.Jobs.{Proper}
+use Rattle.laws.proofs.Sane.{Sane, SaneState, SaneMoves, settled, awaited-symbol, reached-sanely}
+use Rattle.plan_laws.proofs.Misses.{Miss, miss, misses, misses-over, misses-drawn, misses-now}
+use Rattle.plan_laws.proofs.States.{settled-landed, settled-holds}
+use Rattle.plan_laws.proofs.Asking.{asked-load, both-true}
+use Rattle.plan_laws.proofs.Keeping.{Done}
+use Rattle.plan_laws.proofs.Rising.{Rising}
+use Rattle.plan_laws.proofs.OnDemand.{opt-done}
+
+-- A load begun as a miss: the draw that it was begun for, its slot and its symbol.
+abbrev pub missOf : Loaded → Miss
+missOf (loaded t d q x) = miss d q x
+
+-- All misses of a job, from the start.
+abbrev pub missesOf : Job → List Miss
+missesOf job = misses 0 (job .starting) (job .draws)
+
+module _ (job : Job) (proper : Proper job) where
+  -- The loads begun so far and the misses to come are all misses.
+  abbrev Worked : State → Type 0
+  Worked s = map missOf (s .begun) ++ misses (s .next) (settled (s .loading) (s .slots)) (s .rest) ≡ missesOf job
+
+  worked-moves : SaneMoves job opt Worked Worked Worked
+  worked-moves =
+      record {
+        lands = λ s more g h. rw (settled-landed (s .loading) (s .slots)) h;
+        passes = λ s more a g h. h;
+        begins = λ q x s b g h.
+            let (test, to, symbol) = asked-load _ (furthest (ahead s) (s .slots)) (awaited s) q x (b .asks) in
+            let (quiet, missed) = both-true (idle (s .loading)) (not (stands (awaited s) (s .slots))) test in
+            let still : settled (s .loading) (s .slots) ≡ s .slots = ap (λ (l : Loading). settled l (s .slots)) (b .quiet) in
+            let some : 0 < length (s .slots) = omega (arith, proper .some-slot, g .row) in
+            let before : map missOf (s .begun) ++ misses (s .next) (s .slots) (s .rest) ≡ missesOf job = rw still at h in
+            let first : misses (s .next) (s .slots) (s .rest) ≡ miss (s .next) q x ∷ misses (s .next) (set (s .slots) q x) (s .rest) =
+            rw (← to, ← symbol) (misses-now (s .next) (s .slots) (s .rest) some (b .more) (not-true _ missed)) in
+            rw (set-set, map-snoc, append-assoc) (rw first at before);
+        draws = λ q s d g h.
+            let symbol : awaited s ≡ free → ⊥ = awaited-symbol job (s .next) (s .rest) (s .slots) (s .loading) proper g (d .more) in
+            let held : stands (awaited s) (settled (s .loading) (s .slots)) ≡ true =
+            settled-holds job (s .next) (s .rest) (s .slots) (s .loading) (awaited s) g symbol (d .held) in
+            rw (misses-drawn (s .next) (settled (s .loading) (s .slots)) (s .rest) (d .more) held) at h;
+        waits = λ s w g h. h;
+      }
+
+  -- The loads that opt begins are the misses of the job, each at its draw, in their order.
+  pub opt-loads : map missOf (begunIn (runPlan job opt)) ≡ missesOf job
+  opt-loads =
+      let d : Done job opt Rising = opt-done job proper in
+      let last : State = d .last in
+      let worked : Worked last = reached-sanely job opt Worked Worked Worked proper worked-moves refl _ last (d .ran) in
+      let none : misses (last .next) (settled (last .loading) (last .slots)) (last .rest) ≡ [] = misses-over _ _ (last .rest) (d .over) in
+      rw (d .ran) (rw (none, append-nil) at worked)
