@@ -77,6 +77,11 @@ pub record Done (job : Job) (rule : Rule) (P : State → Type 0) : Type 0 where
   pub whole : last .tick ≡ length (job .draws) + last .waits
   pub kept : P last
 
+-- The same with another fact of its last state.
+pub done-with : {P : State → Type 0} (job : Job) (rule : Rule) (Q : State → Type 0) (d : Done job rule Q) → P (d .last) → Done job rule P
+done-with job rule Q d also =
+    record { last = d .last; ran = d .ran; over = d .over; few = d .few; prompt = d .prompt; whole = d .whole; kept = also }
+
 -- A plan's run, for what its moves keep beside sanity and what makes it ready.
 module _ (job : Job) (proper : Proper job) (asks : State → Begun) (P : State → Type 0)
     (keeps : SaneMoves job (asking asks) P P P) (starts : P (start job))

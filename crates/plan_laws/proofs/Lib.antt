@@ -11,4 +11,5 @@ pub mod Asking
 pub mod OnDemand
 pub mod Aggressive
 pub mod OptLoads
+pub mod Conservative
 pub mod Replay
