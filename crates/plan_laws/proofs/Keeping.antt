@@ -5,7 +5,7 @@ use native.Mathlib.Omega.{arith}
 use native.Mathlib.Nat.{mul-le-mul}
 use mathlib.Core.Path.{_≡_, refl, sym, ap, subst, _∙_}
 use mathlib.Core.Bool.{Bool, true, false, cond, not, _&&_, _||_}
-use mathlib.Core.List.{List, [], _∷_}
+use mathlib.Core.List.{List, [], _∷_, map}
 use lib.ListN.{length, getD, drop, set}
 use lib.Dec.{eqb, ltb}
 use borrow.Author.Tests.{lt-ltb, ne-eqb}
@@ -22,6 +22,7 @@ use Rattle.rules.specs.Job.{Job, free}
 use Rattle.rules.specs.LoadList.{last-tick}
 use Rattle.rules.specs.Display.{State, Run, Rule, going, refused, start, landedSlots, landedLoading, land, begin, idle, loadNumber, beginning, awaited, causeOf, happeningOf, draw, wait, stuck, moved, happened, then, tick, finished, run}
 use Rattle.rules.specs.Plans.{asking, runPlan}
+use Rattle.rules.specs.Refusals.{inOrder, eventOf}
 use Rattle.laws.proofs.Cases.{by-test}
 use Rattle.laws.proofs.Moves.{Begins, Draws, Waits, Moves, Steps, reached, tick-kept, is-more, is-over}
 use Rattle.laws.proofs.Runs.{run-then, run-finished, run-unfinished, run-ticks}
@@ -29,6 +30,7 @@ use Rattle.laws.proofs.Jobs.{Proper}
 use Rattle.laws.proofs.Counts.{Counted, counted, elapsed}
 use Rattle.laws.proofs.Sane.{SaneState, SaneMoves, Sane, sane, sane-moves, reached-sanely}
 use Rattle.plan_laws.proofs.Clock.{waits-few}
+use Rattle.plan_laws.proofs.Replay.{in-order}
 
 -- A load that the display takes.
 pub load-permitted : (job : Job) (q x : ℕ) (s : State) → idle (s .loading) ≡ true → q < job .slots → (x ≡ free → ⊥)
@@ -67,7 +69,7 @@ module _ (job : Job) (asks : State → Begun) (s : State) (ready : Ready job ask
   goes-on = begins-or-not (asks (land s)) refl
 
 -- A plan that is done: every draw is made, with at most a load to each draw and at most F waits to each load. So elapsed is at most n + F · n,
--- far below the last tick that a list can name.
+-- far below the last tick that a list can name. The list of its loads, checked, comes to the same state.
 pub record Done (job : Job) (rule : Rule) (P : State → Type 0) : Type 0 where
   pub last : State
   pub ran : runPlan job rule ≡ going last
@@ -75,12 +77,24 @@ pub record Done (job : Job) (rule : Rule) (P : State → Type 0) : Type 0 where
   pub few : last .loads ≤ length (job .draws)
   pub prompt : last .waits ≤ job .time * last .loads
   pub whole : last .tick ≡ length (job .draws) + last .waits
+  pub listed : length (last .begun) ≡ last .loads
+  pub replays : inOrder job (map eventOf (last .begun)) ≡ going last
   pub kept : P last
 
 -- The same with another fact of its last state.
 pub done-with : {P : State → Type 0} (job : Job) (rule : Rule) (Q : State → Type 0) (d : Done job rule Q) → P (d .last) → Done job rule P
 done-with job rule Q d also =
-    record { last = d .last; ran = d .ran; over = d .over; few = d .few; prompt = d .prompt; whole = d .whole; kept = also }
+    record {
+      last = d .last;
+      ran = d .ran;
+      over = d .over;
+      few = d .few;
+      prompt = d .prompt;
+      whole = d .whole;
+      listed = d .listed;
+      replays = d .replays;
+      kept = also;
+    }
 
 -- A plan's run, for what its moves keep beside sanity and what makes it ready.
 module _ (job : Job) (proper : Proper job) (asks : State → Begun) (P : State → Type 0)
@@ -120,14 +134,15 @@ module _ (job : Job) (proper : Proper job) (asks : State → Begun) (P : State �
       let here : SaneState job s = sane job (asking asks) proper last-tick s e in
       let loads : s .loads ≤ length (job .draws) = few s here (holds last-tick s e) in
       let prompt : s .waits ≤ job .time * s .loads = waits-few job asks (proper .some-time) last-tick s e in
-      let ticks : s .tick ≡ s .next + s .waits = counted job (asking asks) proper last-tick s e .ticks in
+      let counts = counted job (asking asks) proper last-tick s e in
+      let drawn : s .next ≤ length (job .draws) = here .within in
+      let limit : length (job .draws) ≤ 4096 = proper .few-draws in
+      let product : job .time * s .loads ≤ 1000 * 4096 = mul-le-mul {n₂ = 1000} {m₂ = 4096} (proper .little-time) (omega arith) in
+      let soon : s .tick < last-tick = omega (arith, counts .ticks) in
       let over : s .rest ≡ [] =
       by-test (finished (s .rest)) (is-over (s .rest))
       (λ f.
       let full : s .tick ≡ 0 + last-tick = run-ticks job (asking asks) last-tick (start job) s e (is-more (s .rest) f) in
-      let drawn : s .next ≤ length (job .draws) = here .within in
-      let limit : length (job .draws) ≤ 4096 = proper .few-draws in
-      let product : job .time * s .loads ≤ 1000 * 4096 = mul-le-mul {n₂ = 1000} {m₂ = 4096} (proper .little-time) (omega arith) in
       absurd (omega arith)) in
       record {
         last = s;
@@ -136,5 +151,7 @@ module _ (job : Job) (proper : Proper job) (asks : State → Begun) (P : State �
         few = loads;
         prompt = prompt;
         whole = elapsed job (asking asks) proper last-tick s e over;
+        listed = counts .begun-all;
+        replays = in-order job asks last-tick s e over (omega arith) (omega arith);
         kept = holds last-tick s e;
       }

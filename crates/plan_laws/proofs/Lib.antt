@@ -4,6 +4,7 @@ pub mod Choice
 pub mod Misses
 pub mod Against
 pub mod Clock
+pub mod Replay
 pub mod Keeping
 pub mod States
 pub mod Rising
@@ -12,4 +13,4 @@ pub mod OnDemand
 pub mod Aggressive
 pub mod OptLoads
 pub mod Conservative
-pub mod Replay
+pub mod Plans
