@@ -3,20 +3,21 @@
 use Prim.Native.Nat.{ℕ, zero, suc, _+_, _-_, _<_, _≤_}
 use native.Mathlib.Omega.{arith}
 use mathlib.Core.Path.{_≡_, refl, sym, ap, _∙_}
-use mathlib.Core.Bool.{Bool, true, false, cond, _||_}
+use mathlib.Core.Bool.{Bool, true, false, cond, not, _&&_, _||_}
 use mathlib.Core.List.{List, [], _∷_}
-use lib.ListN.{length, getD, set, length-set}
+use lib.ListN.{length, getD, drop, set, length-set}
 use lib.Dec.{eqb, ltb}
-use borrow.Author.Tests.{ltb-true, ltb-false, eqb-true, eqb-false}
+use borrow.Author.Tests.{ltb-true, ltb-false, eqb-true, ne-eqb}
 use Rattle.rules.specs.Basics.{place, stands}
 use Rattle.rules.specs.Job.{free}
 use Rattle.rules.specs.Plans.{furthest}
-use Rattle.laws.proofs.Cases.{by-test}
+use Rattle.rules.specs.Refusals.{doubled}
+use Rattle.laws.proofs.Cases.{by-test, neither}
 use Rattle.laws.proofs.Symbols.{stands-cons}
-use Rattle.plan_laws.proofs.Search.{place-cons-most}
+use Rattle.plan_laws.proofs.Search.{place-here, place-cons-most}
 use Rattle.plan_laws.proofs.Counting.{total, total-set, total-set-most, soon, soon-yes, soon-not, soon-place, soon-most, useful, useful-most, useful-none, same, holders, holders-found, holders-unfound, drawn-held, drawn-once, drawn-unheld}
 use Rattle.plan_laws.proofs.Choice.{chosen-below, chosen-useful, drawn-symbol}
-use Rattle.plan_laws.proofs.Misses.{misses, misses-hit, misses-miss}
+use Rattle.plan_laws.proofs.Misses.{misses, misses-over, misses-hit, misses-miss}
 
 -- No symbol stands in two slots.
 abbrev pub Once : List ℕ → Type 0
@@ -34,9 +35,22 @@ once-set slots q y once missing x symbol =
     omega (arith, total-set-most (same x) slots q y, same-most x y))
     (λ e. omega (arith, rw e at (total-set-most (same x) slots q y), once x symbol))
 
+-- A row that refusal 5 takes is such a one.
+pub once-start : (l : List ℕ) → doubled l ≡ false → Once l
+unfolding doubled total
+once-start [] single x symbol = omega arith
+once-start (y ∷ l) single x symbol =
+    let (alone, later) = neither (not (eqb y free) && stands y l) (doubled l) single in
+    by-test (eqb x y)
+    (λ e.
+    let same-symbol : x ≡ y = eqb-true x y e in
+    let absent : stands x l ≡ false = rw (← same-symbol, ne-eqb x free symbol) at alone in
+    omega (arith, same-most x y, holders-unfound x l absent))
+    (λ e. rw e (omega (arith, once-start l later x symbol)))
+
 -- Opt against a run with these draws to come, these slots and so many loads ended: opt, taken to the same draw, has made so many loads,
 -- and however many draws one looks ahead, its loads and the other's useful slots are no more than the other's ended loads and its own.
-pub record Behind (whole next : ℕ) (rest slots : List ℕ) (ended : ℕ) : Type 0 where
+pub record Covered (whole next : ℕ) (rest slots : List ℕ) (ended : ℕ) : Type 0 where
   pub contents : List ℕ
   pub made : ℕ
   pub size : length contents ≡ length slots
@@ -45,14 +59,14 @@ pub record Behind (whole next : ℕ) (rest slots : List ℕ) (ended : ℕ) : Typ
   pub count : (j : ℕ) → j ≤ length rest → made + useful slots rest j ≤ ended + useful contents rest j
 
 -- At the start the slots are the same.
-pub behind-start : (rest slots : List ℕ) → Once slots → Behind (length (misses 0 slots rest)) 0 rest slots 0
-behind-start rest slots once =
+pub covered-start : (rest slots : List ℕ) → Once slots → Covered (length (misses 0 slots rest)) 0 rest slots 0
+covered-start rest slots once =
     record { contents = slots; made = 0; size = refl; once = once; all = omega arith; count = λ j few. omega arith }
 
-module _ (whole next : ℕ) (rest slots : List ℕ) (ended : ℕ) (before : Behind whole next rest slots ended) where
+module _ (whole next : ℕ) (rest slots : List ℕ) (ended : ℕ) (before : Covered whole next rest slots ended) where
   -- A load that ends puts one symbol into a slot and is one more that has ended.
-  pub behind-lands : (q x : ℕ) → Behind whole next rest (set slots q x) (ended + 1)
-  behind-lands q x =
+  pub covered-lands : (q x : ℕ) → Covered whole next rest (set slots q x) (ended + 1)
+  covered-lands q x =
       record {
         contents = before .contents;
         made = before .made;
@@ -64,8 +78,8 @@ module _ (whole next : ℕ) (rest slots : List ℕ) (ended : ℕ) (before : Behi
       }
 
   -- A load that begins leaves its slot free, and a free slot is not useful.
-  pub behind-begins : (q : ℕ) → stands free rest ≡ false → Behind whole next rest (set slots q free) ended
-  behind-begins q drawable =
+  pub covered-begins : (q : ℕ) → stands free rest ≡ false → Covered whole next rest (set slots q free) ended
+  covered-begins q drawable =
       record {
         contents = before .contents;
         made = before .made;
@@ -78,19 +92,22 @@ module _ (whole next : ℕ) (rest slots : List ℕ) (ended : ℕ) (before : Behi
       }
 
 -- At the end opt has made no more loads than have ended.
-pub behind-over : (whole next : ℕ) (slots : List ℕ) (ended : ℕ) → Behind whole next [] slots ended → whole ≤ ended
-unfolding misses
-behind-over whole next slots ended before =
-    omega (arith, before .all, before .count 0 (omega arith), useful-none (before .contents) [])
+pub covered-over : (whole next : ℕ) (rest slots : List ℕ) (ended : ℕ) → rest ≡ [] → Covered whole next rest slots ended → whole ≤ ended
+covered-over whole next rest slots ended over before =
+    let none : length (misses next (before .contents) rest) ≡ 0 = ap length (misses-over next (before .contents) rest over) in
+    omega (arith, before .all, before .count 0 (omega arith), useful-none (before .contents) rest)
 
-module _ (whole next x : ℕ) (rest slots : List ℕ) (ended : ℕ) (before : Behind whole next (x ∷ rest) slots ended)
-    (symbol : x ≡ free → ⊥) (held : stands x slots ≡ true) where
+module _ (whole next x : ℕ) (rest slots : List ℕ) (ended : ℕ) (before : Covered whole next (x ∷ rest) slots ended)
+    (drawable : stands free (x ∷ rest) ≡ false) (held : stands x slots ≡ true) where
+  symbol : x ≡ free → ⊥
+  symbol = drawn-symbol (x ∷ rest) x drawable (rw (place-here x x rest refl) (omega arith))
+
   some-hold : 0 < holders x slots
   some-hold = holders-found x slots held
 
   -- A draw that opt hits too.
-  behind-hit : stands x (before .contents) ≡ true → Behind whole (next + 1) rest slots ended
-  behind-hit hit =
+  covered-hit : stands x (before .contents) ≡ true → Covered whole (next + 1) rest slots ended
+  covered-hit hit =
       record {
         contents = before .contents;
         made = before .made;
@@ -106,7 +123,7 @@ module _ (whole next x : ℕ) (rest slots : List ℕ) (ended : ℕ) (before : Be
             );
       }
 
-  module _ (drawable : stands free (x ∷ rest) ≡ false) (missing : stands x (before .contents) ≡ false) where
+  module _ (missing : stands x (before .contents) ≡ false) where
     abbrev slot : ℕ
     slot = furthest (x ∷ rest) (before .contents)
 
@@ -116,9 +133,9 @@ module _ (whole next x : ℕ) (rest slots : List ℕ) (ended : ℕ) (before : Be
     unheld : (j : ℕ) → useful (before .contents) (x ∷ rest) (suc j) ≡ useful (before .contents) rest j
     unheld j = drawn-unheld x rest j (before .contents) (holders-unfound x (before .contents) missing)
 
-    -- Where the draw is one that opt misses, opt is a load behind already.
-    load-behind : before .made + 1 ≤ ended
-    load-behind =
+    -- Where the draw is one that opt misses, the other is a load ahead already.
+    load-ahead : before .made + 1 ≤ ended
+    load-ahead =
         omega (
           arith,
           before .count 1 (omega arith),
@@ -143,11 +160,11 @@ module _ (whole next x : ℕ) (rest slots : List ℕ) (ended : ℕ) (before : Be
         let full : useful (before .contents) (x ∷ rest) (suc j) ≡ length (before .contents) =
         chosen-useful (x ∷ rest) (before .contents) (suc j) drawable (omega arith) (omega arith) in
         let size : length (before .contents) ≡ length slots = before .size in
-        omega (arith, useful-most slots (x ∷ rest) (suc j), load-behind, soon-most rest j z))
+        omega (arith, useful-most slots (x ∷ rest) (suc j), load-ahead, soon-most rest j z))
         (λ e. omega (arith, before .count (suc j) (omega arith), ltb-false 0 (soon rest j z) e))
 
-    behind-miss : Behind whole (next + 1) rest slots ended
-    behind-miss =
+    covered-miss : Covered whole (next + 1) rest slots ended
+    covered-miss =
         record {
           contents = set (before .contents) slot x;
           made = before .made + 1;
@@ -157,6 +174,11 @@ module _ (whole next x : ℕ) (rest slots : List ℕ) (ended : ℕ) (before : Be
           count = count-miss;
         }
 
-  -- A draw: either way opt stays behind.
-  pub behind-draws : stands free (x ∷ rest) ≡ false → Behind whole (next + 1) rest slots ended
-  behind-draws drawable = by-test (stands x (before .contents)) behind-hit (behind-miss drawable)
+-- A draw, hit or missed by opt.
+pub covered-draws : (whole next : ℕ) (rest slots : List ℕ) (ended : ℕ) → stands free rest ≡ false → 0 < length rest
+    → stands (getD rest 0 0) slots ≡ true → Covered whole next rest slots ended → Covered whole (next + 1) (drop 1 rest) slots ended
+covered-draws whole next [] slots ended drawable more held before = absurd (omega arith)
+covered-draws whole next (x ∷ rest) slots ended drawable more held before =
+    by-test (stands x (before .contents))
+    (covered-hit whole next x rest slots ended before drawable held)
+    (covered-miss whole next x rest slots ended before drawable held)

@@ -14,3 +14,4 @@ pub mod Aggressive
 pub mod OptLoads
 pub mod Conservative
 pub mod Plans
+pub mod Demand

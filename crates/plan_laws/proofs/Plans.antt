@@ -35,9 +35,9 @@ plan-done job proper (suc (suc zero)) = done-with job (ruleOf job 2) _ (opt-done
 plan-done job proper (suc (suc (suc p))) = done-with job (ruleOf job 3) _ (lru-done job proper) tt
 
 -- A job that is taken, a plan's number and room enough: the plan comes to its last state.
-pub planned-done : (job : List ℕ) (shape : Shape) (p room : ℕ) → readJob job ≡ Taken shape → p ≤ last-plan
+pub planned-done : {P : State → Type 0} (job : List ℕ) (shape : Shape) (p room : ℕ) → readJob job ≡ Taken shape → p ≤ last-plan
     → head-size + event-size * length (drawsOf job) ≤ room
-    → (d : Done (jobOf job) (ruleOf (jobOf job) p) Any) → planned job p room ≡ going (d .last)
+    → (d : Done (jobOf job) (ruleOf (jobOf job) p) P) → planned job p room ≡ going (d .last)
 unfolding planned
 planned-done job shape p room taken known enough d =
     rw (taken, le-ltb last-plan p known, le-ltb room (head-size + event-size * length (drawsOf job)) enough, d .ran, d .over)
