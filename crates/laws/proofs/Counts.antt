@@ -188,7 +188,7 @@ busy-passes time tick (Under (suc left) q x) begun h =
           one-under (λ l r y. Last time (tick + 1 + l + 1) r y begun) left q x left′ q′ x′ (rw (← sooner) (h .last (suc left) q x refl)) e;
     }
 
-busy-moves : (job : Job) (rule : Rule) → 1 ≤ job .time → Moves job rule (BusyBetween job) (BusyLanded job) (BusyBegun job)
+pub busy-moves : (job : Job) (rule : Rule) → 1 ≤ job .time → Moves job rule (BusyBetween job) (BusyLanded job) (BusyBegun job)
 busy-moves job rule some-time =
     record {
       lands = λ s more h. h;
@@ -204,7 +204,7 @@ busy-moves job rule some-time =
       waits = λ s w h. busy-passes (job .time) (s .tick) (s .loading) (s .begun) h;
     }
 
-busy-start : (job : Job) → BusyBetween job (start job)
+pub busy-start : (job : Job) → BusyBetween job (start job)
 busy-start job =
     record {
       past = λ i h. absurd (omega arith);

@@ -168,3 +168,16 @@ upon job rule Q R S P L B known new =
       draws = λ q s d h. (known .draws q s d (h .0), new .draws q s d (h .0) (h .1));
       waits = λ s w h. (known .waits s w (h .0), new .waits s w (h .0) (h .1));
     }
+
+-- Two things that the moves keep are kept together.
+pub both : (job : Job) (rule : Rule) (Q R S P L B : State → Type 0) → Moves job rule Q R S → Moves job rule P L B
+    → Moves job rule (λ s. Q s × P s) (λ s. R s × L s) (λ s. S s × B s)
+both job rule Q R S P L B one other =
+    upon job rule Q R S P L B one
+    (record {
+      lands = λ s more g h. other .lands s more h;
+      passes = λ s more a g h. other .passes s more a h;
+      begins = λ q x s b g h. other .begins q x s b h;
+      draws = λ q s d g h. other .draws q s d h;
+      waits = λ s w g h. other .waits s w h;
+    })
