@@ -22,7 +22,8 @@ use Rattle.laws.proofs.Sane.{Sane, SaneState, SaneMoves, remaining}
 use Rattle.plan_laws.proofs.Choice.{rank-place}
 use Rattle.plan_laws.proofs.States.{rest-drawable, chosen-slot}
 use Rattle.plan_laws.proofs.Asking.{asked-load, asked-none, both-true, other-false}
-use Rattle.plan_laws.proofs.Keeping.{Ready, load-permitted, Done, done}
+use Rattle.plan_laws.proofs.Going.{Ready, load-permitted}
+use Rattle.plan_laws.proofs.Keeping.{Done, done}
 use Rattle.plan_laws.proofs.Rising.{Rising, rising-moves, rising-few, missing-most, missing-absent, missing-now, missing-later}
 
 module _ (job : Job) (proper : Proper job) where

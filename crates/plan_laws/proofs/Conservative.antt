@@ -25,7 +25,8 @@ use Rattle.plan_laws.proofs.Choice.{drawn-symbol}
 use Rattle.plan_laws.proofs.Misses.{Miss, miss, misses, misses-over, misses-most, misses-drawn, misses-now, First, first}
 use Rattle.plan_laws.proofs.States.{rest-drawable, settled-landed, settled-holds}
 use Rattle.plan_laws.proofs.Asking.{asked-load, asked-none, both-true}
-use Rattle.plan_laws.proofs.Keeping.{Ready, load-permitted, Done, done, done-with}
+use Rattle.plan_laws.proofs.Going.{Ready, load-permitted}
+use Rattle.plan_laws.proofs.Keeping.{Done, done, done-with}
 use Rattle.plan_laws.proofs.OptLoads.{missOf, missesOf, opt-loads}
 
 map-drop : {A B : Type 0} (f : A → B) (n : ℕ) (l : List A) → map f (drop n l) ≡ drop n (map f l)

@@ -1,5 +1,4 @@
--- What a plan has to show, and what it gets: where in every state it asks only for loads that the display takes, and asks for one where
--- a draw would wait with none under way, its run is never refused, and it ends soon after its last load.
+-- What a plan gets that is ready in every state: its run is never refused, it ends soon after its last load, and its list checks.
 use Prim.Native.Nat.{ℕ, zero, suc, _+_, _*_, _-_, _<_, _≤_}
 use native.Mathlib.Omega.{arith}
 use native.Mathlib.Nat.{mul-le-mul}
@@ -29,44 +28,9 @@ use Rattle.laws.proofs.Runs.{run-then, run-finished, run-unfinished, run-ticks}
 use Rattle.laws.proofs.Jobs.{Proper}
 use Rattle.laws.proofs.Counts.{Counted, counted, elapsed}
 use Rattle.laws.proofs.Sane.{SaneState, SaneMoves, Sane, sane, sane-moves, reached-sanely}
+use Rattle.plan_laws.proofs.Going.{Ready, goes-on}
 use Rattle.plan_laws.proofs.Clock.{waits-few}
 use Rattle.plan_laws.proofs.Replay.{in-order}
-
--- A load that the display takes.
-pub load-permitted : (job : Job) (q x : ℕ) (s : State) → idle (s .loading) ≡ true → q < job .slots → (x ≡ free → ⊥)
-    → stands x (s .slots) ≡ false → loadNumber job q x s ≡ 0
-load-permitted job q x s i l f n = rw (i, lt-ltb q (job .slots) l, ne-eqb x free f, n)
-
--- A plan that is ready in a state asks only for a load that the display takes, and for one where the draw would wait with none under way.
-pub record Ready (job : Job) (asks : State → Begun) (s : State) : Type 0 where
-  pub permitted : (q x : ℕ) → asks s ≡ Load q x → loadNumber job q x s ≡ 0
-  pub served : asks s ≡ NoLoad → s .loading ≡ Idle → stands (awaited s) (s .slots) ≡ true
-
--- A tick is no endless wait where a load is under way or the draw's symbol stands.
-unstuck : (loading : Loading) (x : ℕ) (slots : List ℕ) → (loading ≡ Idle → stands x slots ≡ true)
-    → stuck (cond (stands x slots) (Draw (place x slots)) (Wait (causeOf loading x))) true ≡ false
-unstuck Idle x slots h = rw (h refl)
-unstuck (Under left q y) x slots h =
-    by-test (stands x slots) (λ e. rw e) (λ e. rw e (by-test (eqb x y) (λ f. rw f) (λ f. rw f)))
-
-goes-through : (s : State) → (s .loading ≡ Idle → stands (awaited s) (s .slots) ≡ true)
-    → (s′ : State) × (happened (happeningOf s) true s ≡ going s′)
-unfolding happened
-goes-through s h = (moved (happeningOf s) s, rw (unstuck (s .loading) (awaited s) (s .slots) h))
-
--- Where a plan is ready, the tick is not refused.
-module _ (job : Job) (asks : State → Begun) (s : State) (ready : Ready job asks (land s)) where
-  begins-or-not : (b : Begun) → asks (land s) ≡ b
-      → (s′ : State) × (then (beginning job b (land s)) (λ z. happened (happeningOf z) true z) ≡ going s′)
-  unfolding beginning
-  begins-or-not NoLoad e = goes-through (land s) (ready .served e)
-  begins-or-not (Load q x) e =
-      let (s′, h) = goes-through (begin job q x (land s)) (λ i. let z : _≡_ {A = ℕ} 0 1 = cc in absurd (omega arith)) in
-      (s′, rw (ready .permitted q x e) h)
-
-  pub goes-on : (s′ : State) × (tick job (asking asks) s ≡ going s′)
-  unfolding tick
-  goes-on = begins-or-not (asks (land s)) refl
 
 -- A plan that is done: every draw is made, with at most a load to each draw and at most F waits to each load. So elapsed is at most n + F · n,
 -- far below the last tick that a list can name. The list of its loads, checked, comes to the same state.
@@ -152,6 +116,6 @@ module _ (job : Job) (proper : Proper job) (asks : State → Begun) (P : State �
         prompt = prompt;
         whole = elapsed job (asking asks) proper last-tick s e over;
         listed = counts .begun-all;
-        replays = in-order job asks last-tick s e over (omega arith) (omega arith);
+        replays = in-order job (asking asks) last-tick s e over (omega arith) (omega arith);
         kept = holds last-tick s e;
       }

@@ -3,6 +3,7 @@ pub mod Counting
 pub mod Choice
 pub mod Misses
 pub mod Against
+pub mod Going
 pub mod Clock
 pub mod Replay
 pub mod Keeping

@@ -18,7 +18,8 @@ use Rattle.laws.proofs.Jobs.{Proper}
 use Rattle.laws.proofs.Sane.{Sane, SaneState, SaneMoves, awaited-symbol}
 use Rattle.plan_laws.proofs.States.{chosen-slot}
 use Rattle.plan_laws.proofs.Asking.{asked-load, asked-none, both-true, other-false}
-use Rattle.plan_laws.proofs.Keeping.{Ready, load-permitted, Done, done}
+use Rattle.plan_laws.proofs.Going.{Ready, load-permitted}
+use Rattle.plan_laws.proofs.Keeping.{Done, done}
 use Rattle.plan_laws.proofs.Rising.{Rising, rising-moves, rising-few, missing-now, missing-later}
 
 module _ (job : Job) (proper : Proper job) (slot : State → ℕ) (below : (s : State) → SaneState job s → slot s < job .slots) where
