@@ -27,12 +27,12 @@ busyOf Idle = 0
 busyOf (Under left q x) = suc left
 
 -- Landing takes nothing from them; only then does the tick that comes count.
-busy-landed : (loading : Loading) → busyOf (landedLoading loading) ≡ leftOf loading
+pub busy-landed : (loading : Loading) → busyOf (landedLoading loading) ≡ leftOf loading
 busy-landed Idle = refl
 busy-landed (Under zero q x) = refl
 busy-landed (Under (suc left) q x) = refl
 
-one-more : (f l : ℕ) → f * (l + 1) ≡ f * l + f
+pub one-more : (f l : ℕ) → f * (l + 1) ≡ f * l + f
 one-more f l = mul-add f l 1 ∙ ap (λ (n : ℕ). f * l + n) (mul-one f)
 
 left-less : (loading : Loading) → leftOf loading ≤ busyOf loading
@@ -44,7 +44,7 @@ busy-most Idle = omega arith
 busy-most (Under left q x) = omega arith
 
 -- A wait with a load under way uses up one of its ticks; there is no other wait.
-wait-used : (loading : Loading) → (loading ≡ Idle → true ≡ false) → leftOf loading + 1 ≡ busyOf loading
+pub wait-used : (loading : Loading) → (loading ≡ Idle → true ≡ false) → leftOf loading + 1 ≡ busyOf loading
 wait-used Idle h = let never : true ≡ false = h refl in let impossible : _≡_ {A = ℕ} 0 1 = cc in absurd (omega arith)
 wait-used (Under left q x) h = omega arith
 

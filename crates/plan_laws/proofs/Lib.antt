@@ -16,3 +16,4 @@ pub mod OptLoads
 pub mod Conservative
 pub mod Plans
 pub mod Demand
+pub mod Exact

@@ -23,7 +23,7 @@ use Rattle.plan_laws.proofs.States.{settled-landed, settled-holds}
 use Rattle.plan_laws.proofs.Asking.{asked-load, both-true}
 use Rattle.plan_laws.proofs.Keeping.{Done}
 use Rattle.plan_laws.proofs.Rising.{Rising}
-use Rattle.plan_laws.proofs.OnDemand.{opt-done}
+use Rattle.plan_laws.proofs.OnDemand.{Demanded, demanded, opt-done}
 
 -- A load begun as a miss: the draw that it was begun for, its slot and its symbol.
 abbrev pub missOf : Loaded → Miss
@@ -44,13 +44,12 @@ module _ (job : Job) (proper : Proper job) where
         lands = λ s more g h. rw (settled-landed (s .loading) (s .slots)) h;
         passes = λ s more a g h. h;
         begins = λ q x s b g h.
-            let (test, to, symbol) = asked-load _ (furthest (ahead s) (s .slots)) (awaited s) q x (b .asks) in
-            let (quiet, missed) = both-true (idle (s .loading)) (not (stands (awaited s) (s .slots))) test in
+            let d : Demanded (λ s. furthest (ahead s) (s .slots)) q x s = demanded (λ s. furthest (ahead s) (s .slots)) q x s (b .asks) in
             let still : settled (s .loading) (s .slots) ≡ s .slots = ap (λ (l : Loading). settled l (s .slots)) (b .quiet) in
             let some : 0 < length (s .slots) = omega (arith, proper .some-slot, g .row) in
             let before : map missOf (s .begun) ++ misses (s .next) (s .slots) (s .rest) ≡ missesOf job = rw still at h in
             let first : misses (s .next) (s .slots) (s .rest) ≡ miss (s .next) q x ∷ misses (s .next) (set (s .slots) q x) (s .rest) =
-            rw (← to, ← symbol) (misses-now (s .next) (s .slots) (s .rest) some (b .more) (not-true _ missed)) in
+            rw (← d .to, ← d .symbol) (misses-now (s .next) (s .slots) (s .rest) some (b .more) (d .missed)) in
             rw (set-set, map-snoc, append-assoc) (rw first at before);
         draws = λ q s d g h.
             let symbol : awaited s ≡ free → ⊥ = awaited-symbol job (s .next) (s .rest) (s .slots) (s .loading) proper g (d .more) in
