@@ -4,9 +4,9 @@ use Prim.Native.Nat.{ℕ, zero, suc, _+_, _-_, _<_, _≤_}
 use native.Mathlib.Omega.{arith}
 use mathlib.Core.Path.{_≡_, refl, sym, ap, _∙_}
 use mathlib.Core.Bool.{Bool, true, false, not, _&&_}
-use mathlib.Core.List.{List, [], _∷_, map}
-use lib.ListN.{length, getD, drop, set, length-drop, length-map}
-use lib.Seq.{set-set, drop-drop}
+use mathlib.Core.List.{List, [], _∷_, _++_, map}
+use lib.ListN.{length, getD, take, drop, set, length-drop, length-map}
+use lib.Seq.{set-set, drop-drop, take-add, take-all}
 use lib.Dec.{leb}
 use borrow.Author.Tests.{leb-true, le-leb}
 use Rattle.rules.specs.declared.Begun.{Begun}
@@ -18,6 +18,7 @@ use Rattle.rules.specs.Job.{Job, free}
 use Rattle.rules.specs.Display.{State, Rule, Loaded, loaded, going, start, idle, awaited, run}
 use Rattle.rules.specs.Plans.{furthest, ahead, earliest, conservative, opt, runPlan, begunIn, ruleOf}
 use Rattle.laws.proofs.Cases.{by-test}
+use Rattle.laws.proofs.Rows.{map-snoc}
 use Rattle.laws.proofs.Moves.{Begins}
 use Rattle.laws.proofs.Jobs.{Proper}
 use Rattle.laws.proofs.Sane.{Sane, SaneState, SaneMoves, settled, awaited-symbol, reached-sanely}
@@ -29,20 +30,30 @@ use Rattle.plan_laws.proofs.Going.{Ready, load-permitted}
 use Rattle.plan_laws.proofs.Keeping.{Done, done, done-with}
 use Rattle.plan_laws.proofs.OptLoads.{missOf, missesOf, opt-loads}
 
-map-drop : {A B : Type 0} (f : A → B) (n : ℕ) (l : List A) → map f (drop n l) ≡ drop n (map f l)
-map-drop f zero l = refl
-map-drop f (suc n) [] = refl
-map-drop f (suc n) (x ∷ l) = map-drop f n l
+-- One more of a list is taken.
+one-further : (n : ℕ) (l : List Loaded) (a : Loaded) (later : List Loaded) → drop n l ≡ a ∷ later
+    → (take (n + 1) l ≡ take n l ++ (a ∷ [])) × (drop (n + 1) l ≡ later) × (n + 1 ≤ length l)
+one-further n l a later e =
+    let left : length l - n ≡ suc (length later) = sym (length-drop n l) ∙ ap length e in (
+      take-add n 1 l ∙ ap (λ (r : List Loaded). take n l ++ take 1 r) e,
+      sym (drop-drop 1 n l) ∙ ap (drop 1) e,
+      omega arith,
+    )
 
 settled-idle : (loading : Loading) (slots : List ℕ) → idle loading ≡ true → settled loading slots ≡ slots
 settled-idle Idle slots e = refl
 settled-idle (Under left q x) slots e = let impossible : _≡_ {A = ℕ} 0 1 = cc in absurd (omega arith)
 
+-- A load as what the display is asked for: its slot and its symbol.
+abbrev pub loadOf : Loaded → Begun
+loadOf (loaded t d q x) = Load q x
+
 -- The load asked for is the first of those still to make, and what goes out is not drawn before its miss.
 record Asked (left : List Loaded) (s : State) (q x : ℕ) : Type 0 where
+  t : ℕ
   m : ℕ
-  later : List Miss
-  head : map missOf left ≡ miss m q x ∷ later
+  later : List Loaded
+  head : left ≡ loaded t m q x ∷ later
   quiet : idle (s .loading) ≡ true
   enough : m ≤ s .next + place (getD (s .slots) q 0) (s .rest)
 
@@ -52,7 +63,7 @@ asked (loaded t m r y ∷ left) s q x e =
     let (test, to, symbol) = asked-load (idle (s .loading) && leb m (s .next + place (getD (s .slots) r 0) (s .rest))) r y q x e in
     let (quiet, far) = both-true (idle (s .loading)) _ test in
     let enough : m ≤ s .next + place (getD (s .slots) r 0) (s .rest) = leb-true _ _ far in
-    record { m = m; later = map missOf left; head = rw (to, symbol); quiet = quiet; enough = rw to at enough }
+    record { t = t; m = m; later = left; head = rw (to, symbol); quiet = quiet; enough = rw to at enough }
 
 -- A load whose miss is the next draw is asked for at once.
 asked-now : (left : List Loaded) (s : State) (q x : ℕ) (later : List Miss) → map missOf left ≡ miss (s .next) q x ∷ later → s .loading ≡ Idle
@@ -67,28 +78,35 @@ asked-now (loaded t m r y ∷ left) s q x later e quiet none =
     let z : _≡_ {A = ℕ} 0 1 = cc in
     omega arith
 
+-- All of these loads are made, slot for slot and symbol for symbol in their order, as many as opt has misses.
+pub record Whole (job : Job) (loads : List Loaded) (s : State) : Type 0 where
+  pub count : s .loads ≡ length (missesOf job)
+  pub same : map loadOf (s .begun) ≡ map loadOf loads
+
 module _ (job : Job) (proper : Proper job) (loads : List Loaded) (all : map missOf loads ≡ missesOf job) where
-  record Early (next : ℕ) (rest slots : List ℕ) (loading : Loading) (begun : ℕ) : Type 0 where
-    to-come : misses next (settled loading slots) rest ≡ map missOf (drop begun loads)
-    upto : begun ≤ length loads
+  record Early (next : ℕ) (rest slots : List ℕ) (loading : Loading) (count : ℕ) (begun : List Loaded) : Type 0 where
+    to-come : misses next (settled loading slots) rest ≡ map missOf (drop count loads)
+    upto : count ≤ length loads
+    so-far : map loadOf begun ≡ map loadOf (take count loads)
 
   abbrev EarlyState : State → Type 0
-  EarlyState s = Early (s .next) (s .rest) (s .slots) (s .loading) (s .loads)
+  EarlyState s = Early (s .next) (s .rest) (s .slots) (s .loading) (s .loads) (s .begun)
 
   -- The load asked for, seen as opt's next miss.
   first-asked : (s : State) → SaneState job s → EarlyState s → (q x : ℕ) (a : Asked (drop (s .loads) loads) s q x)
-      → First (s .next) (s .slots) (s .rest) (a .m) q x (a .later)
+      → First (s .next) (s .slots) (s .rest) (a .m) q x (map missOf (a .later))
   first-asked s g h q x a =
       let still : settled (s .loading) (s .slots) ≡ s .slots = settled-idle (s .loading) (s .slots) (a .quiet) in
       let coming : misses (s .next) (s .slots) (s .rest) ≡ map missOf (drop (s .loads) loads) = rw still at (h .to-come) in
-      first (s .next) (s .slots) (s .rest) (a .m) q x (a .later) (omega (arith, proper .some-slot, g .row)) (coming ∙ a .head)
+      let some : 0 < length (s .slots) = omega (arith, proper .some-slot, g .row) in
+      first (s .next) (s .slots) (s .rest) (a .m) q x (map missOf (a .later)) some (coming ∙ ap (map missOf) (a .head))
 
   early-ready : (s : State) → 0 < length (s .rest) → SaneState job s → EarlyState s → Ready job (conservative loads .asks) s
   early-ready s more g h =
       record {
         permitted = λ q x e.
             let a : Asked (drop (s .loads) loads) s q x = asked (drop (s .loads) loads) s q x e in
-            let f : First (s .next) (s .slots) (s .rest) (a .m) q x (a .later) = first-asked s g h q x a in
+            let f : First (s .next) (s .slots) (s .rest) (a .m) q x (map missOf (a .later)) = first-asked s g h q x a in
             let drawable : stands free (s .rest) ≡ false = rest-drawable job (s .next) (s .rest) (s .slots) (s .loading) proper g in
             load-permitted job q x s (a .quiet) (rw (g .row) at (f .below)) (drawn-symbol (s .rest) x drawable (f .drawn)) (f .absent);
         served = λ e quiet.
@@ -103,21 +121,19 @@ module _ (job : Job) (proper : Proper job) (loads : List Loaded) (all : map miss
   early-moves : SaneMoves job (conservative loads) EarlyState EarlyState EarlyState
   early-moves =
       record {
-        lands = λ s more g h. record { to-come = rw (settled-landed (s .loading) (s .slots)) (h .to-come); upto = h .upto };
+        lands = λ s more g h. record { to-come = rw (settled-landed (s .loading) (s .slots)) (h .to-come); upto = h .upto; so-far = h .so-far };
         passes = λ s more a g h. h;
         begins = λ q x s b g h.
             let a : Asked (drop (s .loads) loads) s q x = asked (drop (s .loads) loads) s q x (b .asks) in
-            let f : First (s .next) (s .slots) (s .rest) (a .m) q x (a .later) = first-asked s g h q x a in
-            let one : length (drop (s .loads) loads) ≡ suc (length (a .later)) =
-            sym (length-map (drop (s .loads) loads) missOf) ∙ ap length (a .head) in
-            let behind : map missOf (drop (s .loads + 1) loads) ≡ a .later =
-            map-drop missOf (s .loads + 1) loads
-            ∙ sym (drop-drop 1 (s .loads) (map missOf loads))
-            ∙ ap (drop 1) (sym (map-drop missOf (s .loads) loads) ∙ a .head) in
-            record {
-              to-come = rw set-set (f .early (a .enough) ∙ sym behind);
-              upto = omega (arith, length-drop (s .loads) loads);
-            };
+            let f : First (s .next) (s .slots) (s .rest) (a .m) q x (map missOf (a .later)) = first-asked s g h q x a in
+            let (front, behind, fewer) = one-further (s .loads) loads (loaded (a .t) (a .m) q x) (a .later) (a .head) in
+          record {
+            to-come = rw (set-set, behind) (f .early (a .enough));
+            upto = omega arith;
+            so-far =
+              map-snoc loadOf (s .begun) (loaded (s .tick) (s .next) q x)
+              ∙ rw (front, map-snoc loadOf (take (s .loads) loads) (loaded (a .t) (a .m) q x), h .so-far);
+          };
         draws = λ q s d g h.
             let symbol : awaited s ≡ free → ⊥ = awaited-symbol job (s .next) (s .rest) (s .slots) (s .loading) proper g (d .more) in
             let held : stands (awaited s) (settled (s .loading) (s .slots)) ≡ true =
@@ -125,6 +141,7 @@ module _ (job : Job) (proper : Proper job) (loads : List Loaded) (all : map miss
             record {
               to-come = rw (misses-drawn (s .next) (settled (s .loading) (s .slots)) (s .rest) (d .more) held) at (h .to-come);
               upto = h .upto;
+              so-far = h .so-far;
             };
         waits = λ s w g h. h;
       }
@@ -136,7 +153,7 @@ module _ (job : Job) (proper : Proper job) (loads : List Loaded) (all : map miss
 
   early-done : Done job (conservative loads) EarlyState
   early-done =
-      done job proper (conservative loads .asks) EarlyState early-moves (record { to-come = sym all; upto = omega arith }) early-ready early-few
+      done job proper (conservative loads .asks) EarlyState early-moves (record { to-come = sym all; upto = omega arith; so-far = refl }) early-ready early-few
 
   -- At the last draw no miss is to come, so none of the loads is left.
   early-all : (s : State) → s .rest ≡ [] → EarlyState s → s .loads ≡ length loads
@@ -145,11 +162,14 @@ module _ (job : Job) (proper : Proper job) (loads : List Loaded) (all : map miss
       let left : length (drop (s .loads) loads) ≡ 0 = sym (length-map (drop (s .loads) loads) missOf) ∙ ap length none in
       omega (arith, length-drop (s .loads) loads, h .upto)
 
-  early-whole : Done job (conservative loads) (λ s. s .loads ≡ length (missesOf job))
+  early-whole : Done job (conservative loads) (λ s. Whole job loads s)
   early-whole =
-      done-with job (conservative loads) EarlyState early-done
-      (early-all (early-done .last) (early-done .over) (early-done .kept) ∙ sym (length-map loads missOf) ∙ ap length all)
+      let d : Done job (conservative loads) EarlyState = early-done in
+      let many : d .last .loads ≡ length loads = early-all (d .last) (d .over) (d .kept) in
+      let every : take (d .last .loads) loads ≡ loads = take-all (d .last .loads) loads (omega arith) in
+      done-with job (conservative loads) EarlyState d
+        (record { count = many ∙ sym (length-map loads missOf) ∙ ap length all; same = d .kept .so-far ∙ ap (map loadOf) every })
 
--- Conservative is never refused, is done in time, and makes exactly as many loads as opt has misses.
-pub conservative-done : (job : Job) → Proper job → Done job (ruleOf job 1) (λ s. s .loads ≡ length (missesOf job))
+-- Conservative is never refused, is done in time, and makes exactly opt's loads.
+pub conservative-done : (job : Job) → Proper job → Done job (ruleOf job 1) (λ s. Whole job (begunIn (runPlan job opt)) s)
 conservative-done job proper = early-whole job proper (begunIn (runPlan job opt)) (opt-loads job proper)

@@ -4,16 +4,18 @@ use native.Mathlib.Omega.{arith}
 use native.Mathlib.Nat.{mul-le-mul-left}
 use mathlib.Core.Path.{_≡_, refl, sym, ap, _∙_}
 use mathlib.Core.Bool.{true, false}
-use mathlib.Core.List.{List, [], _∷_}
+use mathlib.Core.List.{List, [], _∷_, map}
 use lib.ListN.{length, getD, drop, set}
 use Rattle.rules.specs.declared.Loading.{Loading}
 use Rattle.rules.specs.declared.Loading.the-variants.{Idle, Under}
+use Rattle.rules.specs.declared.JobReading.the-variants.{Taken}
+use Rattle.rules.specs.declared.Shape.{Shape}
 use Rattle.rules.specs.Basics.{stands}
 use Rattle.rules.specs.Job.{Job, free, jobOf, drawsOf, shapeOf}
 use Rattle.rules.specs.LoadList.{head-size, event-size, eventsOf}
 use Rattle.rules.specs.Display.{State, Rule, going, start, landedSlots, landedLoading, run}
 use Rattle.rules.specs.Plans.{ruleOf}
-use Rattle.rules.specs.Refusals.{follow, patience, checked, planned}
+use Rattle.rules.specs.Refusals.{readJob, follow, patience, checked, planned}
 use Rattle.laws.proofs.Moves.{Begins, Draws}
 use Rattle.laws.proofs.Jobs.{Proper, proper}
 use Rattle.laws.proofs.Sane.{Sane, SaneState, SaneMoves, reached-sanely}
@@ -25,7 +27,9 @@ use Rattle.plan_laws.proofs.Clock.{underOf, ended-ticks}
 use Rattle.plan_laws.proofs.States.{rest-drawable}
 use Rattle.plan_laws.proofs.Keeping.{Done}
 use Rattle.plan_laws.proofs.OptLoads.{missesOf}
-use Rattle.plan_laws.proofs.Conservative.{conservative-done}
+use Rattle.plan_laws.proofs.Conservative.{loadOf, conservative-done}
+use Rattle.plan_laws.proofs.OnDemand.{opt-done}
+use Rattle.plan_laws.proofs.Exact.{conservative-no-later}
 use Rattle.plan_laws.proofs.Plans.{planned-done}
 
 -- A run of any rule, with the loads that have ended, opt's loads being covered by them.
@@ -89,7 +93,7 @@ module _ (job : Job) (good : Proper job) (rule : Rule) (t : ℕ) (s : State) (ra
   conservative-better =
       let c = conservative-done job good in
       let (ended, all, least) = ended-least job good rule t s ran over in
-      let same : c .last .loads ≡ length (missesOf job) = c .kept in
+      let same : c .last .loads ≡ length (missesOf job) = c .kept .count in
       let fewer : c .last .loads ≤ ended = omega arith in
       let waits : c .last .waits ≤ job .time * c .last .loads = c .prompt in
       let whole : c .last .tick ≡ length (job .draws) + c .last .waits = c .whole in
@@ -110,4 +114,21 @@ conservative-best job list ticks slots s e room enough =
       d .last,
       planned-done job (shapeOf job) 1 room (a .job-taken) (omega arith) enough d,
       conservative-better (jobOf job) good (follow (eventsOf list)) (patience (jobOf job)) s (a .ran) (a .over),
+    )
+
+-- Of every job that is taken, with room enough, conservative is never later than opt, and makes opt's loads in opt's order.
+pub conservative-like-opt : (job : List ℕ) (shape : Shape) (room : ℕ) → readJob job ≡ Taken shape
+    → head-size + event-size * length (drawsOf job) ≤ room
+    → (c o : State) × (planned job 1 room ≡ going c) × (planned job 2 room ≡ going o)
+    × (c .tick ≤ o .tick) × (map loadOf (c .begun) ≡ map loadOf (o .begun))
+conservative-like-opt job shape room taken enough =
+    let good : Proper (jobOf job) = proper job shape taken in
+    let c = conservative-done (jobOf job) good in
+    let o = opt-done (jobOf job) good in (
+      c .last,
+      o .last,
+      planned-done job shape 1 room taken (omega arith) enough c,
+      planned-done job shape 2 room taken (omega arith) enough o,
+      conservative-no-later (jobOf job) good .0,
+      rw (o .ran) at (c .kept .same),
     )

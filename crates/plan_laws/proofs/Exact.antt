@@ -3,19 +3,24 @@ use Prim.Native.Nat.{ℕ, zero, suc, _+_, _*_, _-_, _<_, _≤_}
 use native.Mathlib.Omega.{arith}
 use mathlib.Core.Path.{_≡_, refl, sym, ap, _∙_}
 use mathlib.Core.Bool.{Bool, true, false, not, _&&_}
-use mathlib.Core.List.{List, []}
+use mathlib.Core.List.{List, [], map}
 use lib.ListN.{length, getD, drop, length-map}
 use Rattle.rules.specs.declared.Loading.{Loading}
 use Rattle.rules.specs.declared.Loading.the-variants.{Idle, Under}
 use Rattle.rules.specs.Basics.{stands}
 use Rattle.rules.specs.Job.{Job}
+use Rattle.rules.specs.LoadList.{last-tick}
 use Rattle.rules.specs.Display.{State, Rule, going, start, landedLoading, idle, awaited, run}
-use Rattle.rules.specs.Plans.{on-demand}
+use Rattle.rules.specs.Plans.{furthest, ahead, on-demand, opt}
 use Rattle.laws.proofs.Moves.{Begins, Draws, Waits}
 use Rattle.laws.proofs.Jobs.{Proper}
 use Rattle.laws.proofs.Sane.{Sane, SaneState, SaneMoves, Underway, reached-sanely}
 use Rattle.plan_laws.proofs.Clock.{leftOf, busyOf, busy-landed, wait-used, one-more}
-use Rattle.plan_laws.proofs.OnDemand.{Demanded, demanded}
+use Rattle.plan_laws.proofs.OnDemand.{Demanded, demanded, opt-done}
+use Rattle.plan_laws.proofs.Keeping.{Done}
+use Rattle.plan_laws.proofs.Rising.{Rising}
+use Rattle.plan_laws.proofs.OptLoads.{missOf, missesOf, opt-loads}
+use Rattle.plan_laws.proofs.Conservative.{Whole, conservative-done}
 
 -- The load under way is for the next draw.
 abbrev Awaits : Loading → List ℕ → Type 0
@@ -80,3 +85,26 @@ module _ (job : Job) (proper : Proper job) (slot : State → ℕ) where
       let h : Between s =
       reached-sanely job (on-demand slot) Between Within Within proper exact-moves (record { count = omega arith; awaits = tt }) t s e in
       omega (arith, h .count, idle-at-end (s .loading) (s .rest) over (h .awaits))
+
+-- Opt's run makes as many loads as it has misses, and waits F ticks for each.
+module _ (job : Job) (proper : Proper job) where
+  opt-count : opt-done job proper .last .loads ≡ length (missesOf job)
+  opt-count =
+      let d : Done job opt Rising = opt-done job proper in
+      let begun : map missOf (d .last .begun) ≡ missesOf job = rw (d .ran) at (opt-loads job proper) in
+      sym (d .listed) ∙ sym (length-map (d .last .begun) missOf) ∙ ap length begun
+
+  opt-waits : opt-done job proper .last .waits ≡ job .time * length (missesOf job)
+  opt-waits =
+      let d : Done job opt Rising = opt-done job proper in
+      demand-waits job proper (λ s. furthest (ahead s) (s .slots)) last-tick (d .last) (d .ran) (d .over) ∙ ap (λ (n : ℕ). job .time * n) opt-count
+
+  -- Conservative is never later than opt, with the same number of loads.
+  pub conservative-no-later : (conservative-done job proper .last .tick ≤ opt-done job proper .last .tick)
+      × (conservative-done job proper .last .loads ≡ opt-done job proper .last .loads)
+  conservative-no-later =
+      let c = conservative-done job proper in
+      let o = opt-done job proper in
+      let same : c .last .loads ≡ length (missesOf job) = c .kept .count in
+      let prompt : c .last .waits ≤ job .time * length (missesOf job) = rw same at (c .prompt) in
+      (omega (arith, c .whole, o .whole, opt-waits), same ∙ sym opt-count)

@@ -15,5 +15,5 @@ pub mod Aggressive
 pub mod OptLoads
 pub mod Conservative
 pub mod Plans
-pub mod Demand
 pub mod Exact
+pub mod Demand
