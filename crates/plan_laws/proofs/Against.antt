@@ -1,9 +1,9 @@
 -- Opt against any other run, by counting useful slots. Opt is taken draw by draw; of the other run only its slots and the number of its
 -- loads that have ended are looked at, so any list is in it, whatever it loads and whenever.
-use Prim.Native.Nat.{ℕ, zero, suc, _+_, _-_, _<_, _≤_}
+use Prim.Native.Nat.{ℕ, suc, _+_, _<_, _≤_}
 use native.Mathlib.Omega.{arith}
 use mathlib.Core.Path.{_≡_, refl, sym, ap, _∙_}
-use mathlib.Core.Bool.{Bool, true, false, cond, not, _&&_, _||_}
+use mathlib.Core.Bool.{true, false, not, _&&_}
 use mathlib.Core.List.{List, [], _∷_}
 use lib.ListN.{length, getD, drop, set, length-set}
 use lib.Dec.{eqb, ltb}
@@ -13,7 +13,6 @@ use Rattle.rules.specs.Job.{free}
 use Rattle.rules.specs.Plans.{furthest}
 use Rattle.rules.specs.Refusals.{doubled}
 use Rattle.laws.proofs.Cases.{by-test, neither}
-use Rattle.laws.proofs.Symbols.{stands-cons}
 use Rattle.plan_laws.proofs.Search.{place-here, place-cons-most}
 use Rattle.plan_laws.proofs.Counting.{total, total-set, total-set-most, soon, soon-yes, soon-not, soon-place, soon-most, useful, useful-most, useful-none, same, holders, holders-found, holders-unfound, drawn-held, drawn-once, drawn-unheld}
 use Rattle.plan_laws.proofs.Choice.{chosen-below, chosen-useful, drawn-symbol}

@@ -1,24 +1,22 @@
 -- Aggressive: in every sane state it is ready, and each of its loads is for the first missing draw.
-use Prim.Native.Nat.{ℕ, zero, suc, _+_, _-_, _<_, _≤_}
+use Prim.Native.Nat.{ℕ, _<_, _≤_}
 use native.Mathlib.Omega.{arith}
-use mathlib.Core.Path.{_≡_, refl, sym, ap, _∙_}
-use mathlib.Core.Bool.{Bool, true, false, not, _&&_}
-use mathlib.Core.List.{List, [], _∷_}
+use mathlib.Core.Path.{_≡_, ap}
+use mathlib.Core.Bool.{Bool, true, false, _&&_}
 use lib.ListN.{length, getD, set}
-use lib.Dec.{eqb, ltb, leb}
+use lib.Dec.{ltb, leb}
 use borrow.Author.Tests.{ltb-true, lt-ltb, leb-true, leb-false}
-use Rattle.rules.specs.declared.Begun.{Begun}
 use Rattle.rules.specs.declared.Begun.the-variants.{Load, NoLoad}
-use Rattle.rules.specs.declared.Loading.the-variants.{Idle, Under}
+use Rattle.rules.specs.declared.Loading.the-variants.{Idle}
 use Rattle.rules.specs.Basics.{place, stands}
 use Rattle.rules.specs.Job.{Job, free}
-use Rattle.rules.specs.Display.{State, Rule, start, idle, awaited}
+use Rattle.rules.specs.Display.{State, idle, awaited}
 use Rattle.rules.specs.Plans.{rank, missing, furthest, ahead, aggressive}
 use Rattle.laws.proofs.Cases.{by-test}
 use Rattle.laws.proofs.Moves.{Begins}
 use Rattle.laws.proofs.Jobs.{Proper}
 use Rattle.laws.proofs.Search.{absent-at}
-use Rattle.laws.proofs.Sane.{Sane, SaneState, SaneMoves, remaining}
+use Rattle.laws.proofs.Sane.{SaneState}
 use Rattle.plan_laws.proofs.Choice.{rank-place}
 use Rattle.plan_laws.proofs.States.{rest-drawable, chosen-slot}
 use Rattle.plan_laws.proofs.Asking.{asked-load, asked-none, both-true, other-false}

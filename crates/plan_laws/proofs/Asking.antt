@@ -1,13 +1,9 @@
 -- What a plan asks for is a load under a test, or nothing: what it tells that a load was asked for, and that none was.
 use Prim.Native.Nat.{ℕ}
 use native.Mathlib.Omega.{arith}
-use mathlib.Core.Path.{_≡_, refl, sym, _∙_}
+use mathlib.Core.Path.{_≡_, refl}
 use mathlib.Core.Bool.{Bool, true, false, cond, _&&_}
-use Rattle.rules.specs.declared.Begun.{Begun}
 use Rattle.rules.specs.declared.Begun.the-variants.{Load, NoLoad}
-use Rattle.rules.specs.declared.Loading.{Loading}
-use Rattle.rules.specs.declared.Loading.the-variants.{Idle, Under}
-use Rattle.rules.specs.Display.{idle}
 
 pub asked-load : (test : Bool) (q x q′ x′ : ℕ) → cond test (Load q x) NoLoad ≡ Load q′ x′ → (test ≡ true) × (q ≡ q′) × (x ≡ x′)
 asked-load true q x q′ x′ e = (refl, cc, cc)

@@ -1,9 +1,9 @@
 -- The slot choice. All that later proofs take from it are two laws: the chosen slot is one of the slots, and if what it holds is drawn
 -- soon, so is what every other slot holds.
-use Prim.Native.Nat.{ℕ, zero, suc, _+_, _-_, _<_, _≤_, min, max}
+use Prim.Native.Nat.{ℕ, zero, suc, _<_, _≤_, max}
 use native.Mathlib.Omega.{arith}
-use mathlib.Core.Path.{_≡_, refl, sym, ap, _∙_}
-use mathlib.Core.Bool.{Bool, true, false, cond}
+use mathlib.Core.Path.{_≡_, refl, ap}
+use mathlib.Core.Bool.{false}
 use mathlib.Core.List.{List, [], _∷_, map}
 use lib.ListN.{length, getD, length-map}
 use lib.Dec.{eqb, ltb}
@@ -14,7 +14,7 @@ use Rattle.rules.specs.Plans.{rank, greatest, furthest}
 use Rattle.laws.proofs.Cases.{by-test}
 use Rattle.laws.proofs.Search.{place-holds}
 use Rattle.plan_laws.proofs.Search.{place-here, place-further}
-use Rattle.plan_laws.proofs.Counting.{total, total-full, soon, soon-yes, soon-place, useful}
+use Rattle.plan_laws.proofs.Counting.{total-full, soon, soon-yes, soon-place, useful}
 
 getD-map : (f : ℕ → ℕ) (l : List ℕ) (i : ℕ) → i < length l → getD (map f l) i 0 ≡ f (getD l i 0)
 getD-map f [] i h = absurd (omega arith)

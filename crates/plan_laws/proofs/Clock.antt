@@ -1,21 +1,19 @@
 -- The loader's clock: a plan waits only while a load is under way, and each load is under way for F ticks; each load of any run that has
 -- ended had F ticks of its own.
-use Prim.Native.Nat.{ℕ, zero, suc, _+_, _*_, _-_, _<_, _≤_}
+use Prim.Native.Nat.{ℕ, zero, suc, _+_, _*_, _<_, _≤_}
 use native.Mathlib.Omega.{arith}
 use native.Mathlib.Nat.{mul-add, mul-one}
-use mathlib.Core.Path.{_≡_, refl, sym, ap, _∙_}
-use mathlib.Core.Bool.{Bool, true, false}
-use mathlib.Core.List.{List, [], _∷_}
-use lib.ListN.{length}
+use mathlib.Core.Path.{_≡_, refl, ap, _∙_}
+use mathlib.Core.Bool.{true, false}
 use Rattle.rules.specs.declared.Begun.{Begun}
 use Rattle.rules.specs.declared.Loading.{Loading}
 use Rattle.rules.specs.declared.Loading.the-variants.{Idle, Under}
 use Rattle.rules.specs.Job.{Job}
-use Rattle.rules.specs.Display.{State, Run, Rule, going, start, landedLoading, run}
+use Rattle.rules.specs.Display.{State, Rule, going, start, landedLoading, run}
 use Rattle.rules.specs.Plans.{asking}
-use Rattle.laws.proofs.Moves.{Begins, Draws, Waits, Moves, reached}
+use Rattle.laws.proofs.Moves.{Moves, reached}
 use Rattle.laws.proofs.Jobs.{Proper}
-use Rattle.laws.proofs.Sane.{Sane, Underway, sane}
+use Rattle.laws.proofs.Sane.{sane}
 
 -- The ticks of the load under way that are still to come, between two ticks, and once what ends in this tick has landed.
 abbrev pub leftOf : Loading → ℕ

@@ -1,11 +1,11 @@
 -- Conservative works opt's loads off, each as early as it may. At every tick the loads still to make are the misses that opt would have from
 -- here on, with the load under way counted as landed; so conservative never misses with nothing to load, and makes exactly opt's loads.
-use Prim.Native.Nat.{ℕ, zero, suc, _+_, _-_, _<_, _≤_}
+use Prim.Native.Nat.{ℕ, suc, _+_, _-_, _<_, _≤_}
 use native.Mathlib.Omega.{arith}
 use mathlib.Core.Path.{_≡_, refl, sym, ap, _∙_}
-use mathlib.Core.Bool.{Bool, true, false, not, _&&_}
+use mathlib.Core.Bool.{true, false, _&&_}
 use mathlib.Core.List.{List, [], _∷_, _++_, map}
-use lib.ListN.{length, getD, take, drop, set, length-drop, length-map}
+use lib.ListN.{length, getD, take, drop, length-drop, length-map}
 use lib.Seq.{set-set, drop-drop, take-add, take-all}
 use lib.Dec.{leb}
 use borrow.Author.Tests.{leb-true, le-leb}
@@ -15,13 +15,12 @@ use Rattle.rules.specs.declared.Loading.{Loading}
 use Rattle.rules.specs.declared.Loading.the-variants.{Idle, Under}
 use Rattle.rules.specs.Basics.{place, stands}
 use Rattle.rules.specs.Job.{Job, free}
-use Rattle.rules.specs.Display.{State, Rule, Loaded, loaded, going, start, idle, awaited, run}
-use Rattle.rules.specs.Plans.{furthest, ahead, earliest, conservative, opt, runPlan, begunIn, ruleOf}
+use Rattle.rules.specs.Display.{State, Loaded, loaded, idle, awaited}
+use Rattle.rules.specs.Plans.{earliest, conservative, opt, runPlan, begunIn, ruleOf}
 use Rattle.laws.proofs.Cases.{by-test}
 use Rattle.laws.proofs.Rows.{map-snoc}
-use Rattle.laws.proofs.Moves.{Begins}
 use Rattle.laws.proofs.Jobs.{Proper}
-use Rattle.laws.proofs.Sane.{Sane, SaneState, SaneMoves, settled, awaited-symbol, reached-sanely}
+use Rattle.laws.proofs.Sane.{SaneState, SaneMoves, settled, awaited-symbol}
 use Rattle.plan_laws.proofs.Choice.{drawn-symbol}
 use Rattle.plan_laws.proofs.Misses.{Miss, miss, misses, misses-over, misses-most, misses-drawn, misses-now, First, first}
 use Rattle.plan_laws.proofs.States.{rest-drawable, settled-landed, settled-holds}

@@ -1,31 +1,25 @@
 -- Conservative against any accepted list: it makes no more loads, and its elapsed is at most twice the list's.
-use Prim.Native.Nat.{ℕ, zero, suc, _+_, _*_, _-_, _<_, _≤_}
+use Prim.Native.Nat.{ℕ, zero, suc, _+_, _*_, _≤_}
 use native.Mathlib.Omega.{arith}
 use native.Mathlib.Nat.{mul-le-mul-left}
-use mathlib.Core.Path.{_≡_, refl, sym, ap, _∙_}
-use mathlib.Core.Bool.{true, false}
-use mathlib.Core.List.{List, [], _∷_, map}
-use lib.ListN.{length, getD, drop, set}
+use mathlib.Core.Path.{_≡_, ap}
+use mathlib.Core.List.{List, [], map}
+use lib.ListN.{length}
 use Rattle.rules.specs.declared.Loading.{Loading}
 use Rattle.rules.specs.declared.Loading.the-variants.{Idle, Under}
 use Rattle.rules.specs.declared.JobReading.the-variants.{Taken}
 use Rattle.rules.specs.declared.Shape.{Shape}
-use Rattle.rules.specs.Basics.{stands}
-use Rattle.rules.specs.Job.{Job, free, jobOf, drawsOf, shapeOf}
+use Rattle.rules.specs.Job.{Job, jobOf, drawsOf, shapeOf}
 use Rattle.rules.specs.LoadList.{head-size, event-size, eventsOf}
 use Rattle.rules.specs.Display.{State, Rule, going, start, landedSlots, landedLoading, run}
-use Rattle.rules.specs.Plans.{ruleOf}
 use Rattle.rules.specs.Refusals.{readJob, follow, patience, checked, planned}
-use Rattle.laws.proofs.Moves.{Begins, Draws}
 use Rattle.laws.proofs.Jobs.{Proper, proper}
-use Rattle.laws.proofs.Sane.{Sane, SaneState, SaneMoves, reached-sanely}
+use Rattle.laws.proofs.Sane.{SaneMoves, reached-sanely}
 use Rattle.laws.proofs.Counts.{elapsed}
 use Rattle.laws.proofs.Checks.{Accepted, accepted}
-use Rattle.plan_laws.proofs.Misses.{misses}
 use Rattle.plan_laws.proofs.Against.{Covered, covered-start, covered-lands, covered-begins, covered-draws, covered-over, once-start}
 use Rattle.plan_laws.proofs.Clock.{underOf, ended-ticks}
 use Rattle.plan_laws.proofs.States.{rest-drawable}
-use Rattle.plan_laws.proofs.Keeping.{Done}
 use Rattle.plan_laws.proofs.OptLoads.{missesOf}
 use Rattle.plan_laws.proofs.Conservative.{loadOf, conservative-done}
 use Rattle.plan_laws.proofs.OnDemand.{opt-done}

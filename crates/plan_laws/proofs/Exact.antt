@@ -1,8 +1,8 @@
 -- A load on demand costs F waits, no more and no less: so opt and lru take n + F · loads ticks, and conservative is never later than opt.
-use Prim.Native.Nat.{ℕ, zero, suc, _+_, _*_, _-_, _<_, _≤_}
+use Prim.Native.Nat.{ℕ, zero, suc, _+_, _*_, _<_, _≤_}
 use native.Mathlib.Omega.{arith}
 use mathlib.Core.Path.{_≡_, refl, sym, ap, _∙_}
-use mathlib.Core.Bool.{Bool, true, false, not, _&&_}
+use mathlib.Core.Bool.{true, false}
 use mathlib.Core.List.{List, [], map}
 use lib.ListN.{length, getD, drop, length-map}
 use Rattle.rules.specs.declared.Loading.{Loading}
@@ -10,17 +10,16 @@ use Rattle.rules.specs.declared.Loading.the-variants.{Idle, Under}
 use Rattle.rules.specs.Basics.{stands}
 use Rattle.rules.specs.Job.{Job}
 use Rattle.rules.specs.LoadList.{last-tick}
-use Rattle.rules.specs.Display.{State, Rule, going, start, landedLoading, idle, awaited, run}
+use Rattle.rules.specs.Display.{State, going, start, landedLoading, run}
 use Rattle.rules.specs.Plans.{furthest, ahead, on-demand, opt}
-use Rattle.laws.proofs.Moves.{Begins, Draws, Waits}
 use Rattle.laws.proofs.Jobs.{Proper}
-use Rattle.laws.proofs.Sane.{Sane, SaneState, SaneMoves, Underway, reached-sanely}
+use Rattle.laws.proofs.Sane.{Sane, SaneMoves, reached-sanely}
 use Rattle.plan_laws.proofs.Clock.{leftOf, busyOf, busy-landed, wait-used, one-more}
-use Rattle.plan_laws.proofs.OnDemand.{Demanded, demanded, opt-done}
+use Rattle.plan_laws.proofs.OnDemand.{demanded, opt-done}
 use Rattle.plan_laws.proofs.Keeping.{Done}
 use Rattle.plan_laws.proofs.Rising.{Rising}
 use Rattle.plan_laws.proofs.OptLoads.{missOf, missesOf, opt-loads}
-use Rattle.plan_laws.proofs.Conservative.{Whole, conservative-done}
+use Rattle.plan_laws.proofs.Conservative.{conservative-done}
 
 -- The load under way is for the next draw.
 abbrev Awaits : Loading → List ℕ → Type 0

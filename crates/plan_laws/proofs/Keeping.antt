@@ -1,33 +1,22 @@
 -- What a plan gets that is ready in every state: its run is never refused, it ends soon after its last load, and its list checks.
-use Prim.Native.Nat.{ℕ, zero, suc, _+_, _*_, _-_, _<_, _≤_}
+use Prim.Native.Nat.{ℕ, zero, suc, _+_, _*_, _<_, _≤_}
 use native.Mathlib.Omega.{arith}
 use native.Mathlib.Nat.{mul-le-mul}
-use mathlib.Core.Path.{_≡_, refl, sym, ap, subst, _∙_}
-use mathlib.Core.Bool.{Bool, true, false, cond, not, _&&_, _||_}
-use mathlib.Core.List.{List, [], _∷_, map}
-use lib.ListN.{length, getD, drop, set}
-use lib.Dec.{eqb, ltb}
-use borrow.Author.Tests.{lt-ltb, ne-eqb}
+use mathlib.Core.Path.{_≡_, refl, _∙_}
+use mathlib.Core.List.{[], map}
+use lib.ListN.{length}
 use Rattle.rules.specs.declared.Begun.{Begun}
-use Rattle.rules.specs.declared.Begun.the-variants.{Load, NoLoad}
-use Rattle.rules.specs.declared.Loading.{Loading}
-use Rattle.rules.specs.declared.Loading.the-variants.{Idle, Under}
-use Rattle.rules.specs.declared.Cause.{Cause}
-use Rattle.rules.specs.declared.Cause.the-variants.{Awaited, Another, Nothing}
-use Rattle.rules.specs.declared.Happening.{Happening}
-use Rattle.rules.specs.declared.Happening.the-variants.{Draw, Wait}
-use Rattle.rules.specs.Basics.{place, stands}
-use Rattle.rules.specs.Job.{Job, free}
+use Rattle.rules.specs.Job.{Job}
 use Rattle.rules.specs.LoadList.{last-tick}
-use Rattle.rules.specs.Display.{State, Run, Rule, going, refused, start, landedSlots, landedLoading, land, begin, idle, loadNumber, beginning, awaited, causeOf, happeningOf, draw, wait, stuck, moved, happened, then, tick, finished, run}
+use Rattle.rules.specs.Display.{State, Rule, going, start, land, tick, finished, run}
 use Rattle.rules.specs.Plans.{asking, runPlan}
 use Rattle.rules.specs.Refusals.{inOrder, eventOf}
 use Rattle.laws.proofs.Cases.{by-test}
-use Rattle.laws.proofs.Moves.{Begins, Draws, Waits, Moves, Steps, reached, tick-kept, is-more, is-over}
+use Rattle.laws.proofs.Moves.{is-more, is-over}
 use Rattle.laws.proofs.Runs.{run-then, run-finished, run-unfinished, run-ticks}
 use Rattle.laws.proofs.Jobs.{Proper}
-use Rattle.laws.proofs.Counts.{Counted, counted, elapsed}
-use Rattle.laws.proofs.Sane.{SaneState, SaneMoves, Sane, sane, sane-moves, reached-sanely}
+use Rattle.laws.proofs.Counts.{counted, elapsed}
+use Rattle.laws.proofs.Sane.{SaneState, SaneMoves, sane, sane-moves, reached-sanely}
 use Rattle.plan_laws.proofs.Going.{Ready, goes-on}
 use Rattle.plan_laws.proofs.Clock.{waits-few}
 use Rattle.plan_laws.proofs.Replay.{in-order}

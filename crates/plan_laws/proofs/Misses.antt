@@ -1,11 +1,10 @@
 -- Opt's loads draw by draw, with no clock: from some contents of the slots, the draws that miss, each with the slot it takes.
-use Prim.Native.Nat.{ℕ, zero, suc, _+_, _-_, _<_, _≤_}
+use Prim.Native.Nat.{ℕ, _+_, _<_, _≤_}
 use native.Mathlib.Omega.{arith}
-use mathlib.Core.Path.{_≡_, refl, sym, ap, _∙_}
-use mathlib.Core.Bool.{Bool, true, false, cond}
+use mathlib.Core.Path.{_≡_, refl, sym, _∙_}
+use mathlib.Core.Bool.{true, false, cond}
 use mathlib.Core.List.{List, [], _∷_}
 use lib.ListN.{length, getD, drop, set}
-use borrow.Author.Tests.{ltb-true, ltb-false}
 use Rattle.rules.specs.Basics.{place, stands}
 use Rattle.rules.specs.Plans.{furthest}
 use Rattle.laws.proofs.Cases.{by-test}

@@ -1,21 +1,18 @@
 -- Plans that load on demand, opt and lru: what they keep, whichever slot they take.
-use Prim.Native.Nat.{ℕ, zero, suc, _+_, _-_, _<_, _≤_}
+use Prim.Native.Nat.{ℕ, _<_}
 use native.Mathlib.Omega.{arith}
-use mathlib.Core.Path.{_≡_, refl, sym, ap, _∙_}
+use mathlib.Core.Path.{_≡_, ap}
 use mathlib.Core.Bool.{Bool, true, false, not, _&&_}
-use mathlib.Core.List.{List, [], _∷_}
-use lib.ListN.{length, getD, set}
+use lib.ListN.{length, set}
 use borrow.Author.Tests.{not-true, not-false}
-use Rattle.rules.specs.declared.Begun.{Begun}
-use Rattle.rules.specs.declared.Begun.the-variants.{Load, NoLoad}
-use Rattle.rules.specs.declared.Loading.the-variants.{Idle, Under}
-use Rattle.rules.specs.Basics.{place, stands}
-use Rattle.rules.specs.Job.{Job, free}
-use Rattle.rules.specs.Display.{State, Rule, start, idle, awaited}
+use Rattle.rules.specs.declared.Begun.the-variants.{Load}
+use Rattle.rules.specs.Basics.{stands}
+use Rattle.rules.specs.Job.{Job}
+use Rattle.rules.specs.Display.{State, idle, awaited}
 use Rattle.rules.specs.Plans.{missing, furthest, ahead, behind, on-demand, opt, lru}
 use Rattle.laws.proofs.Moves.{Begins}
 use Rattle.laws.proofs.Jobs.{Proper}
-use Rattle.laws.proofs.Sane.{Sane, SaneState, SaneMoves, awaited-symbol}
+use Rattle.laws.proofs.Sane.{SaneState, SaneMoves, awaited-symbol}
 use Rattle.plan_laws.proofs.States.{chosen-slot}
 use Rattle.plan_laws.proofs.Asking.{asked-load, asked-none, both-true, other-false}
 use Rattle.plan_laws.proofs.Going.{Ready, load-permitted}

@@ -1,26 +1,21 @@
 -- The loads that opt's run begins are its misses draw by draw, in their order.
-use Prim.Native.Nat.{ℕ, zero, suc, _+_, _-_, _<_, _≤_}
+use Prim.Native.Nat.{_<_}
 use native.Mathlib.Omega.{arith}
-use mathlib.Core.Path.{_≡_, refl, sym, ap, _∙_}
-use mathlib.Core.Bool.{Bool, true, false, not, _&&_}
+use mathlib.Core.Path.{_≡_, refl, ap}
+use mathlib.Core.Bool.{true}
 use mathlib.Core.List.{List, [], _∷_, _++_, map, append-assoc, append-nil}
-use lib.ListN.{length, getD, drop, set}
+use lib.ListN.{length, set}
 use lib.Seq.{set-set}
-use borrow.Author.Tests.{not-true}
-use Rattle.rules.specs.declared.Begun.the-variants.{Load, NoLoad}
 use Rattle.rules.specs.declared.Loading.{Loading}
-use Rattle.rules.specs.declared.Loading.the-variants.{Idle, Under}
-use Rattle.rules.specs.Basics.{place, stands}
+use Rattle.rules.specs.Basics.{stands}
 use Rattle.rules.specs.Job.{Job, free}
-use Rattle.rules.specs.Display.{State, Rule, Loaded, loaded, going, start, idle, awaited, run}
+use Rattle.rules.specs.Display.{State, Loaded, loaded, awaited}
 use Rattle.rules.specs.Plans.{furthest, ahead, opt, runPlan, begunIn}
 use Rattle.laws.proofs.Rows.{map-snoc}
-use Rattle.laws.proofs.Moves.{Begins}
 use Rattle.laws.proofs.Jobs.{Proper}
-use Rattle.laws.proofs.Sane.{Sane, SaneState, SaneMoves, settled, awaited-symbol, reached-sanely}
+use Rattle.laws.proofs.Sane.{SaneMoves, settled, awaited-symbol, reached-sanely}
 use Rattle.plan_laws.proofs.Misses.{Miss, miss, misses, misses-over, misses-drawn, misses-now}
 use Rattle.plan_laws.proofs.States.{settled-landed, settled-holds}
-use Rattle.plan_laws.proofs.Asking.{asked-load, both-true}
 use Rattle.plan_laws.proofs.Keeping.{Done}
 use Rattle.plan_laws.proofs.Rising.{Rising}
 use Rattle.plan_laws.proofs.OnDemand.{Demanded, demanded, opt-done}

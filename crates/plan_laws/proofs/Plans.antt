@@ -1,25 +1,23 @@
 -- The four plans by their numbers, over the bytes of a job: each is done, and the list that it writes, checked, is accepted with the same answer.
-use Prim.Native.Nat.{ℕ, zero, suc, _+_, _*_, _-_, _<_, _≤_}
+use Prim.Native.Nat.{ℕ, zero, suc, _+_, _*_, _≤_}
 use native.Mathlib.Omega.{arith}
-use mathlib.Core.Path.{_≡_, refl, sym, ap, _∙_}
-use mathlib.Core.Bool.{Bool, true, false, not, _||_}
-use mathlib.Core.List.{List, [], _∷_, map}
+use mathlib.Core.Path.{_≡_, _∙_}
+use mathlib.Core.Bool.{false}
+use mathlib.Core.List.{List, map}
 use lib.ListN.{length, length-map}
-use lib.Dec.{eqb, ltb}
 use borrow.Author.Tests.{le-ltb}
-use Rattle.rules.specs.declared.JobReading.the-variants.{Taken, Refused}
+use Rattle.rules.specs.declared.JobReading.the-variants.{Taken}
 use Rattle.rules.specs.declared.ListReading.the-variants.{Listed, Unreadable}
 use Rattle.rules.specs.declared.Shape.{Shape}
 use Rattle.rules.specs.Job.{Job, jobOf, drawsOf}
-use Rattle.rules.specs.LoadList.{Event, head-size, event-size, eventsOf, listBytes}
-use Rattle.rules.specs.Display.{State, Run, going, refused, finished}
-use Rattle.rules.specs.Plans.{last-plan, ruleOf, runPlan}
-use Rattle.rules.specs.Refusals.{readJob, jobNumber, badList, readList, shortCheck, shortPlan, inOrder, inTime, checked, planned, eventOf, writtenBy, answerOf}
+use Rattle.rules.specs.LoadList.{Event, head-size, event-size, listBytes}
+use Rattle.rules.specs.Display.{State, going}
+use Rattle.rules.specs.Plans.{last-plan, ruleOf}
+use Rattle.rules.specs.Refusals.{readJob, badList, inOrder, checked, planned, eventOf, writtenBy, answerOf}
 use Rattle.laws.proofs.Cases.{by-test}
 use Rattle.laws.proofs.Jobs.{Proper, proper}
 use Rattle.laws.proofs.RoundTrip.{read-back}
 use Rattle.plan_laws.proofs.Keeping.{Done, done-with}
-use Rattle.plan_laws.proofs.Rising.{Rising}
 use Rattle.plan_laws.proofs.OnDemand.{opt-done, lru-done}
 use Rattle.plan_laws.proofs.Aggressive.{aggressive-done}
 use Rattle.plan_laws.proofs.Conservative.{conservative-done}

@@ -1,13 +1,13 @@
 -- The loads that a run began, under any rule, checked as a list take the display through the same states tick for tick. So what a plan
 -- answers is what a check of its list answers.
-use Prim.Native.Nat.{ℕ, zero, suc, _+_, _-_, _<_, _≤_}
+use Prim.Native.Nat.{ℕ, zero, suc, _+_, _<_, _≤_}
 use native.Mathlib.Omega.{arith}
 use mathlib.Core.Path.{_≡_, refl, sym, ap, subst, _∙_}
-use mathlib.Core.Bool.{Bool, true, false, cond, _||_}
+use mathlib.Core.Bool.{true, false}
 use mathlib.Core.List.{List, [], _∷_, _++_, map, append-assoc, append-nil, map-append}
 use lib.ListN.{length, getD, drop, length-map, length-append}
 use lib.Seq.{drop-at}
-use lib.Dec.{eqb, ltb, leb}
+use lib.Dec.{leb}
 use borrow.Author.Tests.{eq-eqb, ne-eqb, le-ltb, lt-leb}
 use Rattle.rules.specs.declared.Begun.{Begun}
 use Rattle.rules.specs.declared.Begun.the-variants.{Load, NoLoad}
@@ -16,10 +16,10 @@ use Rattle.rules.specs.declared.Loading.the-variants.{Idle, Under}
 use Rattle.rules.specs.Basics.{stands}
 use Rattle.rules.specs.Job.{Job}
 use Rattle.rules.specs.LoadList.{Event, event, last-tick}
-use Rattle.rules.specs.Display.{State, Run, Rule, Loaded, loaded, going, refused, start, landedSlots, landedLoading, land, begin, beginning, awaited, happeningOf, wait, stuck, moved, happened, then, tick, finished, run}
-use Rattle.rules.specs.Refusals.{unruly, due, follow, patience, closing, follows, inOrder, eventOf}
+use Rattle.rules.specs.Display.{State, Run, Rule, going, refused, start, landedSlots, landedLoading, land, beginning, awaited, happeningOf, wait, moved, happened, then, tick, finished, run}
+use Rattle.rules.specs.Refusals.{unruly, due, follow, patience, follows, inOrder, eventOf}
 use Rattle.laws.proofs.Cases.{by-test}
-use Rattle.laws.proofs.Moves.{Begins, Draws, Waits, Moves, reached, then-going, beginning-going, happened-going, tick-kept, is-more, is-over}
+use Rattle.laws.proofs.Moves.{Moves, reached, then-going, beginning-going, happened-going, tick-kept, is-more}
 use Rattle.laws.proofs.Runs.{run-finished, run-unfinished, run-longer, tick-ticks}
 use Rattle.plan_laws.proofs.Going.{unstuck}
 

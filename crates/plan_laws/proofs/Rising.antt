@@ -1,24 +1,21 @@
 -- Loads for rising places: each load of a plan is for the first draw that is in no slot, and afterwards that first draw is a later one. So a
 -- plan makes at most one load to each draw.
-use Prim.Native.Nat.{ℕ, zero, suc, _+_, _-_, _<_, _≤_}
+use Prim.Native.Nat.{ℕ, suc, _+_, _<_, _≤_}
 use native.Mathlib.Omega.{arith}
-use mathlib.Core.Path.{_≡_, refl, sym, ap, _∙_}
-use mathlib.Core.Bool.{true, false, cond, _&&_}
-use mathlib.Core.Bool.{Bool}
+use mathlib.Core.Path.{_≡_, ap}
+use mathlib.Core.Bool.{true, false}
 use mathlib.Core.List.{List, [], _∷_}
 use lib.ListN.{length, getD, drop, set}
 use lib.Seq.{set-set}
-use Rattle.rules.specs.declared.Begun.the-variants.{Load, NoLoad}
 use Rattle.rules.specs.declared.Loading.{Loading}
-use Rattle.rules.specs.declared.Loading.the-variants.{Idle, Under}
 use Rattle.rules.specs.Basics.{place, stands}
 use Rattle.rules.specs.Job.{Job, free}
-use Rattle.rules.specs.Display.{State, Rule, start, landedSlots, landedLoading, land, begin, awaited}
+use Rattle.rules.specs.Display.{State, Rule, awaited}
 use Rattle.rules.specs.Plans.{missing}
 use Rattle.laws.proofs.Cases.{by-test}
-use Rattle.laws.proofs.Moves.{Begins, Draws, Waits, Moves}
+use Rattle.laws.proofs.Moves.{Begins}
 use Rattle.laws.proofs.Jobs.{Proper}
-use Rattle.laws.proofs.Sane.{Sane, SaneState, SaneMoves, Underway, settled, awaited-symbol, remaining}
+use Rattle.laws.proofs.Sane.{SaneState, SaneMoves, settled, awaited-symbol, remaining}
 use Rattle.plan_laws.proofs.States.{settled-landed, settled-holds}
 use Rattle.plan_laws.proofs.Search.{place-here, place-further, stands-new, stands-kept}
 

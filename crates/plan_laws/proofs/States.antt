@@ -1,10 +1,10 @@
 -- What a plan reads off a sane state: the draws that remain, the slot that it takes, and the slots with the load under way counted as landed.
-use Prim.Native.Nat.{ℕ, zero, suc, _+_, _-_, _<_, _≤_}
+use Prim.Native.Nat.{ℕ, zero, suc, _+_, _-_, _<_}
 use native.Mathlib.Omega.{arith}
 use mathlib.Core.Path.{_≡_, refl, sym, ap, _∙_}
 use mathlib.Core.Bool.{true, false}
 use mathlib.Core.List.{List}
-use lib.ListN.{length, getD, drop, set, length-drop}
+use lib.ListN.{length, getD, length-drop}
 use lib.Seq.{getD-drop}
 use Rattle.rules.specs.declared.Loading.{Loading}
 use Rattle.rules.specs.declared.Loading.the-variants.{Idle, Under}
@@ -14,7 +14,7 @@ use Rattle.rules.specs.Display.{State, landedSlots, landedLoading}
 use Rattle.rules.specs.Plans.{furthest}
 use Rattle.laws.proofs.Jobs.{Proper}
 use Rattle.laws.proofs.Search.{absent, absent-at}
-use Rattle.laws.proofs.Sane.{Sane, SaneState, Underway, settled}
+use Rattle.laws.proofs.Sane.{Sane, SaneState, settled}
 use Rattle.plan_laws.proofs.Search.{stands-kept}
 use Rattle.plan_laws.proofs.Choice.{chosen-below}
 
