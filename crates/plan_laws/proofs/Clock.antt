@@ -1,6 +1,6 @@
 -- The loader's clock: a plan waits only while a load is under way, and each load is under way for F ticks; each load of any run that has
 -- ended had F ticks of its own.
-use Prim.Native.Nat.{ℕ, zero, suc, _+_, _*_, _<_, _≤_}
+use Prim.Native.Nat.{ℕ, zero, suc, _+_, _*_, _-_, _<_, _≤_}
 use native.Mathlib.Omega.{arith}
 use native.Mathlib.Nat.{mul-add, mul-one}
 use mathlib.Core.Path.{_≡_, refl, ap, _∙_}
@@ -13,56 +13,40 @@ use Rattle.rules.specs.Display.{State, Rule, going, start, landedLoading, run}
 use Rattle.rules.specs.Plans.{asking}
 use Rattle.laws.proofs.Moves.{Moves, reached}
 use Rattle.laws.proofs.Jobs.{Proper}
+use Rattle.laws.proofs.Counts.{ahead}
 use Rattle.laws.proofs.Sane.{sane}
 
--- The ticks of the load under way that are still to come, between two ticks, and once what ends in this tick has landed.
-abbrev pub leftOf : Loading → ℕ
-leftOf Idle = 0
-leftOf (Under left q x) = left
+-- A tick takes one from those to the end of the load under way.
+pub tick-used : (loading : Loading) → ahead (landedLoading loading) ≡ ahead loading - 1
+tick-used Idle = refl
+tick-used (Under zero q x) = refl
+tick-used (Under (suc left) q x) = omega arith
 
-abbrev pub busyOf : Loading → ℕ
-busyOf Idle = 0
-busyOf (Under left q x) = suc left
-
--- Landing takes nothing from them; only then does the tick that comes count.
-pub busy-landed : (loading : Loading) → busyOf (landedLoading loading) ≡ leftOf loading
-busy-landed Idle = refl
-busy-landed (Under zero q x) = refl
-busy-landed (Under (suc left) q x) = refl
+-- Where a wait would be endless with no load under way, one is under way.
+pub wait-used : (loading : Loading) → (loading ≡ Idle → true ≡ false) → 1 ≤ ahead loading
+wait-used Idle h = let never : true ≡ false = h refl in let impossible : _≡_ {A = ℕ} 0 1 = cc in absurd (omega arith)
+wait-used (Under left q x) h = omega arith
 
 pub one-more : (f l : ℕ) → f * (l + 1) ≡ f * l + f
 one-more f l = mul-add f l 1 ∙ ap (λ (n : ℕ). f * l + n) (mul-one f)
 
-left-less : (loading : Loading) → leftOf loading ≤ busyOf loading
-left-less Idle = omega arith
-left-less (Under left q x) = omega arith
-
-busy-most : (loading : Loading) → busyOf loading ≤ leftOf loading + 1
-busy-most Idle = omega arith
-busy-most (Under left q x) = omega arith
-
--- A wait with a load under way uses up one of its ticks; there is no other wait.
-pub wait-used : (loading : Loading) → (loading ≡ Idle → true ≡ false) → leftOf loading + 1 ≡ busyOf loading
-wait-used Idle h = let never : true ≡ false = h refl in let impossible : _≡_ {A = ℕ} 0 1 = cc in absurd (omega arith)
-wait-used (Under left q x) h = omega arith
-
 module _ (job : Job) (asks : State → Begun) (some-time : 1 ≤ job .time) where
   abbrev Spent : State → Type 0
-  Spent s = s .waits + leftOf (s .loading) ≤ job .time * s .loads
+  Spent s = s .waits + ahead (landedLoading (s .loading)) ≤ job .time * s .loads
 
   abbrev Spending : State → Type 0
-  Spending s = s .waits + busyOf (s .loading) ≤ job .time * s .loads
+  Spending s = s .waits + ahead (s .loading) ≤ job .time * s .loads
 
   spent-moves : Moves job (asking asks) Spent Spending Spending
   spent-moves =
       record {
-        lands = λ s more h. rw busy-landed h;
+        lands = λ s more h. h;
         passes = λ s more a h. h;
         begins = λ q x s b h.
-            let none : busyOf (s .loading) ≡ 0 = ap busyOf (b .quiet) in
+            let none : ahead (s .loading) ≡ 0 = ap ahead (b .quiet) in
             rw (one-more (job .time) (s .loads)) (omega arith);
-        draws = λ q s d h. omega (arith, left-less (s .loading));
-        waits = λ s w h. omega (arith, wait-used (s .loading) (w .hope));
+        draws = λ q s d h. omega (arith, tick-used (s .loading));
+        waits = λ s w h. omega (arith, tick-used (s .loading), wait-used (s .loading) (w .hope));
       }
 
   -- A plan's waits are no more than F to each of its loads.
@@ -78,31 +62,31 @@ underOf (Under left q x) = 1
 
 module _ (job : Job) (rule : Rule) (proper : Proper job) where
   abbrev Taken : State → Type 0
-  Taken s = job .time * s .loads ≤ s .tick + leftOf (s .loading)
+  Taken s = job .time * s .loads ≤ s .tick + ahead (landedLoading (s .loading))
 
   abbrev Taking : State → Type 0
-  Taking s = job .time * s .loads ≤ s .tick + busyOf (s .loading)
+  Taking s = job .time * s .loads ≤ s .tick + ahead (s .loading)
 
   taken-moves : Moves job rule Taken Taking Taking
   taken-moves =
       let some-time : 1 ≤ job .time = proper .some-time in
       record {
-        lands = λ s more h. rw busy-landed h;
+        lands = λ s more h. h;
         passes = λ s more a h. h;
         begins = λ q x s b h.
-            let none : busyOf (s .loading) ≡ 0 = ap busyOf (b .quiet) in
+            let none : ahead (s .loading) ≡ 0 = ap ahead (b .quiet) in
             rw (one-more (job .time) (s .loads)) (omega arith);
-        draws = λ q s d h. omega (arith, busy-most (s .loading));
-        waits = λ s w h. omega (arith, busy-most (s .loading));
+        draws = λ q s d h. omega (arith, tick-used (s .loading));
+        waits = λ s w h. omega (arith, tick-used (s .loading));
       }
 
   ended-by : (loading : Loading) (tick loads ended : ℕ) → ((left q x : ℕ) → loading ≡ Under left q x → left < job .time)
-      → job .time * loads ≤ tick + leftOf loading → ended + underOf loading ≡ loads → job .time * ended ≤ tick
+      → job .time * loads ≤ tick + ahead (landedLoading loading) → ended + underOf loading ≡ loads → job .time * ended ≤ tick
   ended-by Idle tick loads ended soon h e =
       let same : loads ≡ ended = omega arith in omega (arith, rw same at h)
   ended-by (Under left q x) tick loads ended soon h e =
-      let first : job .time * (ended + 1) ≤ tick + left = rw (← e) at h in
-      omega (arith, one-more (job .time) ended, soon left q x refl)
+      let first : job .time * (ended + 1) ≤ tick + ahead (landedLoading (Under left q x)) = rw (← e) at h in
+      omega (arith, tick-used (Under left q x), one-more (job .time) ended, soon left q x refl)
 
   -- Each load that has ended had F ticks of its own.
   pub ended-ticks : (t : ℕ) (s : State) → run job rule t (start job) ≡ going s → (ended : ℕ) → ended + underOf (s .loading) ≡ s .loads

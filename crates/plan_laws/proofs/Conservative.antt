@@ -126,13 +126,13 @@ module _ (job : Job) (proper : Proper job) (loads : List Loaded) (all : map miss
             let a : Asked (drop (s .loads) loads) s q x = asked (drop (s .loads) loads) s q x (b .asks) in
             let f : First (s .next) (s .slots) (s .rest) (a .m) q x (map missOf (a .later)) = first-asked s g h q x a in
             let (front, behind, fewer) = one-further (s .loads) loads (loaded (a .t) (a .m) q x) (a .later) (a .head) in
-          record {
-            to-come = rw (set-set, behind) (f .early (a .enough));
-            upto = omega arith;
-            so-far =
-              map-snoc loadOf (s .begun) (loaded (s .tick) (s .next) q x)
-              ∙ rw (front, map-snoc loadOf (take (s .loads) loads) (loaded (a .t) (a .m) q x), h .so-far);
-          };
+            record {
+              to-come = rw (set-set, behind) (f .early (a .enough));
+              upto = omega arith;
+              so-far =
+                  map-snoc loadOf (s .begun) (loaded (s .tick) (s .next) q x)
+                  ∙ rw (front, map-snoc loadOf (take (s .loads) loads) (loaded (a .t) (a .m) q x), h .so-far);
+            };
         draws = λ q s d g h.
             let symbol : awaited s ≡ free → ⊥ = awaited-symbol job (s .next) (s .rest) (s .slots) (s .loading) proper g (d .more) in
             let held : stands (awaited s) (settled (s .loading) (s .slots)) ≡ true =
@@ -167,7 +167,7 @@ module _ (job : Job) (proper : Proper job) (loads : List Loaded) (all : map miss
       let many : d .last .loads ≡ length loads = early-all (d .last) (d .over) (d .kept) in
       let every : take (d .last .loads) loads ≡ loads = take-all (d .last .loads) loads (omega arith) in
       done-with job (conservative loads) EarlyState d
-        (record { count = many ∙ sym (length-map loads missOf) ∙ ap length all; same = d .kept .so-far ∙ ap (map loadOf) every })
+      (record { count = many ∙ sym (length-map loads missOf) ∙ ap length all; same = d .kept .so-far ∙ ap (map loadOf) every })
 
 -- Conservative is never refused, is done in time, and makes exactly opt's loads.
 pub conservative-done : (job : Job) → Proper job → Done job (ruleOf job 1) (λ s. Whole job (begunIn (runPlan job opt)) s)

@@ -13,8 +13,9 @@ use Rattle.rules.specs.LoadList.{last-tick}
 use Rattle.rules.specs.Display.{State, going, start, landedLoading, run}
 use Rattle.rules.specs.Plans.{furthest, ahead, on-demand, opt}
 use Rattle.laws.proofs.Jobs.{Proper}
+use Rattle.laws.proofs.Counts.{ahead as ticks-left}
 use Rattle.laws.proofs.Sane.{Sane, SaneMoves, reached-sanely}
-use Rattle.plan_laws.proofs.Clock.{leftOf, busyOf, busy-landed, wait-used, one-more}
+use Rattle.plan_laws.proofs.Clock.{tick-used, wait-used, one-more}
 use Rattle.plan_laws.proofs.OnDemand.{demanded, opt-done}
 use Rattle.plan_laws.proofs.Keeping.{Done}
 use Rattle.plan_laws.proofs.Rising.{Rising}
@@ -44,7 +45,7 @@ idle-at-draw job next rest slots (Under left q x) g h held =
     let impossible : _≡_ {A = ℕ} 0 1 = cc in
     absurd (omega arith)
 
-idle-at-end : (loading : Loading) (rest : List ℕ) → rest ≡ [] → Awaits loading rest → leftOf loading ≡ 0
+idle-at-end : (loading : Loading) (rest : List ℕ) → rest ≡ [] → Awaits loading rest → ticks-left (landedLoading loading) ≡ 0
 idle-at-end Idle rest over h = refl
 idle-at-end (Under left q x) rest over h = absurd (omega (arith, ap length over))
 
@@ -54,28 +55,28 @@ module _ (job : Job) (proper : Proper job) (slot : State → ℕ) where
     awaits : Awaits loading rest
 
   abbrev Between : State → Type 0
-  Between s = Exact (s .waits) (s .loads) (leftOf (s .loading)) (s .loading) (s .rest)
+  Between s = Exact (s .waits) (s .loads) (ticks-left (landedLoading (s .loading))) (s .loading) (s .rest)
 
   abbrev Within : State → Type 0
-  Within s = Exact (s .waits) (s .loads) (busyOf (s .loading)) (s .loading) (s .rest)
+  Within s = Exact (s .waits) (s .loads) (ticks-left (s .loading)) (s .loading) (s .rest)
 
   exact-moves : SaneMoves job (on-demand slot) Between Within Within
   exact-moves =
       record {
-        lands = λ s more g h. record { count = rw busy-landed (h .count); awaits = awaits-lands (s .loading) (s .rest) (h .awaits) };
+        lands = λ s more g h. record { count = h .count; awaits = awaits-lands (s .loading) (s .rest) (h .awaits) };
         passes = λ s more a g h. h;
         begins = λ q x s b g h.
-            let none : busyOf (s .loading) ≡ 0 = ap busyOf (b .quiet) in
+            let none : ticks-left (s .loading) ≡ 0 = ap ticks-left (b .quiet) in
             let some-time : 1 ≤ job .time = proper .some-time in
-            let before : s .waits + busyOf (s .loading) ≡ job .time * s .loads = h .count in
+            let before : s .waits + ticks-left (s .loading) ≡ job .time * s .loads = h .count in
             record { count = rw (one-more (job .time) (s .loads)) (omega arith); awaits = (b .more, sym (demanded slot q x s (b .asks) .symbol)) };
         draws = λ q s d g h.
             let quiet : s .loading ≡ Idle = idle-at-draw job (s .next) (s .rest) (s .slots) (s .loading) g (h .awaits) (d .held) in
             record {
-              count = omega (arith, h .count, ap busyOf quiet, ap leftOf quiet);
+              count = omega (arith, h .count, ap ticks-left quiet, tick-used (s .loading));
               awaits = awaits-idle (s .loading) (drop 1 (s .rest)) quiet;
             };
-        waits = λ s w g h. record { count = omega (arith, h .count, wait-used (s .loading) (w .hope)); awaits = h .awaits };
+        waits = λ s w g h. record { count = omega (arith, h .count, tick-used (s .loading), wait-used (s .loading) (w .hope)); awaits = h .awaits };
       }
 
   -- Each load on demand costs F waits.

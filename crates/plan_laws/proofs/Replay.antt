@@ -21,19 +21,20 @@ use Rattle.rules.specs.Refusals.{unruly, due, follow, patience, follows, inOrde
 use Rattle.laws.proofs.Cases.{by-test}
 use Rattle.laws.proofs.Moves.{Moves, reached, then-going, beginning-going, happened-going, tick-kept, is-more}
 use Rattle.laws.proofs.Runs.{run-finished, run-unfinished, run-longer, tick-ticks}
+use Rattle.laws.proofs.Along.{Ruly}
 use Rattle.plan_laws.proofs.Going.{unstuck}
 
 -- Events whose ticks rise strictly, from a tick on and before another.
-pub data Rising : ℕ → ℕ → List Event → Type 0 where
-  none : {u v : ℕ} → Rising u v []
-  one : {u v t q x : ℕ} {l : List Event} → u ≤ t → t < v → Rising (t + 1) v l → Rising u v (event t q x ∷ l)
+pub data Ordered : ℕ → ℕ → List Event → Type 0 where
+  none : {u v : ℕ} → Ordered u v []
+  one : {u v t q x : ℕ} {l : List Event} → u ≤ t → t < v → Ordered (t + 1) v l → Ordered u v (event t q x ∷ l)
 
 -- Such a list has no event that refusal 9 meets.
-pub rising-ruly : {u v : ℕ} {l : List Event} → v ≤ last-tick + 1 → Rising u v l → unruly u l ≡ length l
+pub ordered-ruly : {u v : ℕ} {l : List Event} → v ≤ last-tick + 1 → Ordered u v l → Ruly u l
 unfolding unruly
-rising-ruly few none = refl
-rising-ruly {u} {v} few (one {t = t} least most later) =
-    rw (le-ltb last-tick t (omega arith), le-ltb t u (omega arith), rising-ruly few later)
+ordered-ruly few none = refl
+ordered-ruly {u} {v} few (one {t = t} least most later) =
+    rw (le-ltb last-tick t (omega arith), le-ltb t u (omega arith), ordered-ruly few later)
 
 -- What begins in a tick, as an event of it.
 abbrev begunAt : ℕ → Begun → List Event
@@ -41,16 +42,16 @@ begunAt t NoLoad = []
 begunAt t (Load q x) = event t q x ∷ []
 
 -- A list whose next event is what begins in this tick, all others being later, asks for just that.
-due-now : (t v : ℕ) (a : Begun) (later : List Event) → Rising (t + 1) v later → due (begunAt t a ++ later) t ≡ a
+due-now : (t v : ℕ) (a : Begun) (later : List Event) → Ordered (t + 1) v later → due (begunAt t a ++ later) t ≡ a
 unfolding due
 due-now t v NoLoad later none = refl
 due-now t v NoLoad later (one {t = u} least most r) = rw (ne-eqb u t (λ e. omega arith))
 due-now t v (Load q x) later r = rw (eq-eqb t t refl)
 
-rising-now : (t v : ℕ) (a : Begun) (later : List Event) → t < v → Rising (t + 1) v later → Rising t v (begunAt t a ++ later)
-rising-now t v NoLoad later h none = none
-rising-now t v NoLoad later h (one {t = u} least most r) = one {u = t} {t = u} (omega arith) most r
-rising-now t v (Load q x) later h r = one {u = t} {t = t} (omega arith) h r
+ordered-now : (t v : ℕ) (a : Begun) (later : List Event) → t < v → Ordered (t + 1) v later → Ordered t v (begunAt t a ++ later)
+ordered-now t v NoLoad later h none = none
+ordered-now t v NoLoad later h (one {t = u} least most r) = one {u = t} {t = u} (omega arith) most r
+ordered-now t v (Load q x) later h r = one {u = t} {t = t} (omega arith) h r
 
 -- A run that waits with no load under way, until it begins one.
 data Hoping (n : ℕ) (rest slots : List ℕ) (loading : Loading) (loads : ℕ) : Type 0 where
@@ -154,7 +155,7 @@ module _ (job : Job) (rule : Rule) where
   record Replayed (t : ℕ) (s last : State) : Type 0 where
     later : List Event
     all : map eventOf (last .begun) ≡ map eventOf (s .begun) ++ later
-    rising : Rising (s .tick) (last .tick) later
+    ordered : Ordered (s .tick) (last .tick) later
     onward : s .tick ≤ last .tick
     count : length (last .begun) ≡ last .loads
     same : run job (follow (map eventOf (last .begun))) t s ≡ going last
@@ -165,7 +166,7 @@ module _ (job : Job) (rule : Rule) where
       record {
         later = [];
         all = ap (λ (z : State). map eventOf (z .begun)) (sym e) ∙ sym (append-nil (map eventOf (s .begun)));
-        rising = none;
+        ordered = none;
         onward = omega arith;
         count = subst (λ (z : State). length (z .begun) ≡ z .loads) e count;
         same = run-finished job (follow (map eventOf (last .begun))) t s over ∙ ap going e;
@@ -176,7 +177,7 @@ module _ (job : Job) (rule : Rule) where
   replayed-tick t s s′ last count unfinished first on over r =
       let more : 0 < length (s .rest) = is-more (s .rest) unfinished in
       let next : s′ .tick ≡ s .tick + 1 = tick-ticks job rule s s′ more first in
-      let rising : Rising (s .tick + 1) (last .tick) (r .later) = rw (← next) (r .rising) in
+      let ordered : Ordered (s .tick + 1) (last .tick) (r .later) = rw (← next) (r .ordered) in
       let before : List Event = map eventOf (s .begun) in
       let now : List Event = begunAt (s .tick) (rule .asks (land s)) in
       let events : List Event = map eventOf (last .begun) in
@@ -185,11 +186,11 @@ module _ (job : Job) (rule : Rule) where
       let left : drop (s .loads) events ≡ now ++ r .later =
       rw all (drop-at before (now ++ r .later) (s .loads) (length-map (s .begun) eventOf ∙ count)) in
       let asked : due (drop (s .loads) events) (s .tick) ≡ rule .asks (land s) =
-      rw left (due-now (s .tick) (last .tick) (rule .asks (land s)) (r .later) rising) in
+      rw left (due-now (s .tick) (last .tick) (rule .asks (land s)) (r .later) ordered) in
       record {
         later = now ++ r .later;
         all = all;
-        rising = rising-now (s .tick) (last .tick) (rule .asks (land s)) (r .later) (omega arith) rising;
+        ordered = ordered-now (s .tick) (last .tick) (rule .asks (land s)) (r .later) (omega arith) ordered;
         onward = omega arith;
         count = r .count;
         same =
@@ -242,5 +243,5 @@ module _ (job : Job) (rule : Rule) where
     pub in-order : t ≤ patience job → last .tick ≤ last-tick + 1 → inOrder job Events ≡ going last
     in-order enough soon =
         let r : Replayed t (start job) last = replayed t (start job) last refl ran over in
-        let ruly : unruly 0 Events ≡ length Events = rw (r .all) (rising-ruly soon (r .rising)) in
+        let ruly : Ruly 0 Events = rw (r .all) (ordered-ruly soon (r .ordered)) in
         rw (le-ltb (unruly 0 Events) (length Events) (omega arith)) (replay enough)
