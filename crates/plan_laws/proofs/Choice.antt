@@ -9,8 +9,9 @@ use lib.ListN.{length, getD, length-map}
 use lib.Dec.{eqb, ltb}
 use borrow.Author.Tests.{ltb-true, ltb-false, eqb-true, ne-eqb}
 use Rattle.rules.specs.Basics.{place, stands}
-use Rattle.rules.specs.Job.{free}
-use Rattle.rules.specs.Plans.{rank, greatest, furthest}
+use Rattle.rules.specs.Job.{Job, free}
+use Rattle.rules.specs.Display.{State}
+use Rattle.rules.specs.Plans.{rank, greatest, furthest, ahead}
 use Rattle.laws.proofs.Cases.{by-test}
 use Rattle.laws.proofs.Search.{place-holds}
 use Rattle.plan_laws.proofs.Search.{place-here, place-further}
@@ -100,3 +101,21 @@ pub chosen-useful : (row slots : List ℕ) (j : ℕ) → stands free row ≡ fal
 chosen-useful row slots j none few h =
     total-full (soon row j) slots (λ i less.
     soon-yes row j (getD slots i 0) (chosen-soon row slots j none few (soon-place row j _ h) i less))
+
+-- The slot that opt takes for a miss at draw number d, with these draws to come and these contents of the slots. Opt draw by draw goes by
+-- this and its three laws alone.
+unfoldable pub choice : Job → ℕ → List ℕ → List ℕ → ℕ
+choice job d rest slots = furthest rest slots
+
+pub choice-is : (job : Job) (s : State) → furthest (ahead s) (s .slots) ≡ choice job (s .next) (s .rest) (s .slots)
+unfolding choice
+choice-is job s = refl
+
+pub choice-below : (job : Job) (d : ℕ) (rest slots : List ℕ) → 0 < length slots → choice job d rest slots < length slots
+unfolding choice
+choice-below job d rest slots h = chosen-below rest slots h
+
+pub choice-useful : (job : Job) (d : ℕ) (rest slots : List ℕ) (j : ℕ) → stands free rest ≡ false → j ≤ length rest
+    → 0 < soon rest j (getD slots (choice job d rest slots) 0) → useful slots rest j ≡ length slots
+unfolding choice
+choice-useful job d rest slots j none few h = chosen-useful rest slots j none few h

@@ -84,7 +84,7 @@ pub record Whole (job : Job) (loads : List Loaded) (s : State) : Type 0 where
 
 module _ (job : Job) (proper : Proper job) (loads : List Loaded) (all : map missOf loads ≡ missesOf job) where
   record Early (next : ℕ) (rest slots : List ℕ) (loading : Loading) (count : ℕ) (begun : List Loaded) : Type 0 where
-    to-come : misses next (settled loading slots) rest ≡ map missOf (drop count loads)
+    to-come : misses job next (settled loading slots) rest ≡ map missOf (drop count loads)
     upto : count ≤ length loads
     so-far : map loadOf begun ≡ map loadOf (take count loads)
 
@@ -93,27 +93,27 @@ module _ (job : Job) (proper : Proper job) (loads : List Loaded) (all : map miss
 
   -- The load asked for, seen as opt's next miss.
   first-asked : (s : State) → SaneState job s → EarlyState s → (q x : ℕ) (a : Asked (drop (s .loads) loads) s q x)
-      → First (s .next) (s .slots) (s .rest) (a .m) q x (map missOf (a .later))
+      → First job (s .next) (s .slots) (s .rest) (a .m) q x (map missOf (a .later))
   first-asked s g h q x a =
       let still : settled (s .loading) (s .slots) ≡ s .slots = settled-idle (s .loading) (s .slots) (a .quiet) in
-      let coming : misses (s .next) (s .slots) (s .rest) ≡ map missOf (drop (s .loads) loads) = rw still at (h .to-come) in
+      let coming : misses job (s .next) (s .slots) (s .rest) ≡ map missOf (drop (s .loads) loads) = rw still at (h .to-come) in
       let some : 0 < length (s .slots) = omega (arith, proper .some-slot, g .row) in
-      first (s .next) (s .slots) (s .rest) (a .m) q x (map missOf (a .later)) some (coming ∙ ap (map missOf) (a .head))
+      first job (s .next) (s .slots) (s .rest) (a .m) q x (map missOf (a .later)) some (coming ∙ ap (map missOf) (a .head))
 
   early-ready : (s : State) → 0 < length (s .rest) → SaneState job s → EarlyState s → Ready job (conservative loads .asks) s
   early-ready s more g h =
       record {
         permitted = λ q x e.
             let a : Asked (drop (s .loads) loads) s q x = asked (drop (s .loads) loads) s q x e in
-            let f : First (s .next) (s .slots) (s .rest) (a .m) q x (map missOf (a .later)) = first-asked s g h q x a in
+            let f : First job (s .next) (s .slots) (s .rest) (a .m) q x (map missOf (a .later)) = first-asked s g h q x a in
             let drawable : stands free (s .rest) ≡ false = rest-drawable job (s .next) (s .rest) (s .slots) (s .loading) proper g in
             load-permitted job q x s (a .quiet) (rw (g .row) at (f .below)) (drawn-symbol (s .rest) x drawable (f .drawn)) (f .absent);
         served = λ e quiet.
             by-test (stands (awaited s) (s .slots)) (λ t. t)
             (λ t.
             let still : settled (s .loading) (s .slots) ≡ s .slots = settled-idle (s .loading) (s .slots) (ap idle quiet) in
-            let coming : misses (s .next) (s .slots) (s .rest) ≡ map missOf (drop (s .loads) loads) = rw still at (h .to-come) in
-            let now = misses-now (s .next) (s .slots) (s .rest) (omega (arith, proper .some-slot, g .row)) more t in
+            let coming : misses job (s .next) (s .slots) (s .rest) ≡ map missOf (drop (s .loads) loads) = rw still at (h .to-come) in
+            let now = misses-now job (s .next) (s .slots) (s .rest) (omega (arith, proper .some-slot, g .row)) more t in
             absurd (asked-now (drop (s .loads) loads) s _ _ _ (sym coming ∙ now) quiet e));
       }
 
@@ -124,7 +124,7 @@ module _ (job : Job) (proper : Proper job) (loads : List Loaded) (all : map miss
         passes = λ s more a g h. h;
         begins = λ q x s b g h.
             let a : Asked (drop (s .loads) loads) s q x = asked (drop (s .loads) loads) s q x (b .asks) in
-            let f : First (s .next) (s .slots) (s .rest) (a .m) q x (map missOf (a .later)) = first-asked s g h q x a in
+            let f : First job (s .next) (s .slots) (s .rest) (a .m) q x (map missOf (a .later)) = first-asked s g h q x a in
             let (front, behind, fewer) = one-further (s .loads) loads (loaded (a .t) (a .m) q x) (a .later) (a .head) in
             record {
               to-come = rw (set-set, behind) (f .early (a .enough));
@@ -138,7 +138,7 @@ module _ (job : Job) (proper : Proper job) (loads : List Loaded) (all : map miss
             let held : stands (awaited s) (settled (s .loading) (s .slots)) ≡ true =
             settled-holds job (s .next) (s .rest) (s .slots) (s .loading) (awaited s) g symbol (d .held) in
             record {
-              to-come = rw (misses-drawn (s .next) (settled (s .loading) (s .slots)) (s .rest) (d .more) held) at (h .to-come);
+              to-come = rw (misses-drawn job (s .next) (settled (s .loading) (s .slots)) (s .rest) (d .more) held) at (h .to-come);
               upto = h .upto;
               so-far = h .so-far;
             };
@@ -148,7 +148,7 @@ module _ (job : Job) (proper : Proper job) (loads : List Loaded) (all : map miss
   early-few : (s : State) → SaneState job s → EarlyState s → s .loads ≤ length (job .draws)
   early-few s g h =
       let size : length loads ≡ length (missesOf job) = sym (length-map loads missOf) ∙ ap length all in
-      omega (arith, h .upto, misses-most 0 (job .starting) (job .draws))
+      omega (arith, h .upto, misses-most job 0 (job .starting) (job .draws))
 
   early-done : Done job (conservative loads) EarlyState
   early-done =
@@ -157,7 +157,7 @@ module _ (job : Job) (proper : Proper job) (loads : List Loaded) (all : map miss
   -- At the last draw no miss is to come, so none of the loads is left.
   early-all : (s : State) → s .rest ≡ [] → EarlyState s → s .loads ≡ length loads
   early-all s over h =
-      let none : map missOf (drop (s .loads) loads) ≡ [] = sym (h .to-come) ∙ misses-over _ _ (s .rest) over in
+      let none : map missOf (drop (s .loads) loads) ≡ [] = sym (h .to-come) ∙ misses-over job _ _ (s .rest) over in
       let left : length (drop (s .loads) loads) ≡ 0 = sym (length-map (drop (s .loads) loads) missOf) ∙ ap length none in
       omega (arith, length-drop (s .loads) loads, h .upto)
 

@@ -26,41 +26,41 @@ use Rattle.plan_laws.proofs.OnDemand.{opt-done}
 use Rattle.plan_laws.proofs.Exact.{conservative-no-later}
 use Rattle.plan_laws.proofs.Plans.{planned-done}
 
--- A run of any rule, with the loads that have ended, opt's loads being covered by them.
-record Run-covered (whole next : ℕ) (rest slots : List ℕ) (loading : Loading) (loads : ℕ) : Type 0 where
+-- A run of any rule with the loads that have ended: opt's loads are covered by them.
+record CoveredRun (job : Job) (next : ℕ) (rest slots : List ℕ) (loading : Loading) (loads : ℕ) : Type 0 where
   ended : ℕ
   all : ended + underOf loading ≡ loads
-  covers : Covered whole next rest slots ended
+  covers : Covered job (length (missesOf job)) next rest slots ended
 
-lands-covered : (whole next : ℕ) (rest slots : List ℕ) (loading : Loading) (loads : ℕ) → Run-covered whole next rest slots loading loads
-    → Run-covered whole next rest (landedSlots loading slots) (landedLoading loading) loads
-lands-covered whole next rest slots Idle loads h = h
-lands-covered whole next rest slots (Under zero q x) loads h =
-    record { ended = h .ended + 1; all = omega (arith, h .all); covers = covered-lands whole next rest slots (h .ended) (h .covers) q x }
-lands-covered whole next rest slots (Under (suc left) q x) loads h = record { ended = h .ended; all = h .all; covers = h .covers }
+lands-covered : (job : Job) (next : ℕ) (rest slots : List ℕ) (loading : Loading) (loads : ℕ) → CoveredRun job next rest slots loading loads
+    → CoveredRun job next rest (landedSlots loading slots) (landedLoading loading) loads
+lands-covered job next rest slots Idle loads h = h
+lands-covered job next rest slots (Under zero q x) loads h =
+    record { ended = h .ended + 1; all = omega (arith, h .all); covers = covered-lands job _ next rest slots (h .ended) (h .covers) q x }
+lands-covered job next rest slots (Under (suc left) q x) loads h = record { ended = h .ended; all = h .all; covers = h .covers }
 
 module _ (job : Job) (good : Proper job) (rule : Rule) where
   abbrev CoveredState : State → Type 0
-  CoveredState s = Run-covered (length (missesOf job)) (s .next) (s .rest) (s .slots) (s .loading) (s .loads)
+  CoveredState s = CoveredRun job (s .next) (s .rest) (s .slots) (s .loading) (s .loads)
 
   covered-moves : SaneMoves job rule CoveredState CoveredState CoveredState
   covered-moves =
       record {
-        lands = λ s more g h. lands-covered _ (s .next) (s .rest) (s .slots) (s .loading) (s .loads) h;
+        lands = λ s more g h. lands-covered job (s .next) (s .rest) (s .slots) (s .loading) (s .loads) h;
         passes = λ s more a g h. h;
         begins = λ q x s b g h.
             let none : underOf (s .loading) ≡ 0 = ap underOf (b .quiet) in
             record {
               ended = h .ended;
               all = omega (arith, h .all);
-              covers = covered-begins _ (s .next) (s .rest) (s .slots) (h .ended) (h .covers) q
+              covers = covered-begins job _ (s .next) (s .rest) (s .slots) (h .ended) (h .covers) q
                   (rest-drawable job (s .next) (s .rest) (s .slots) (s .loading) good g);
             };
         draws = λ q s d g h.
             record {
               ended = h .ended;
               all = h .all;
-              covers = covered-draws _ (s .next) (s .rest) (s .slots) (h .ended)
+              covers = covered-draws job _ (s .next) (s .rest) (s .slots) (h .ended)
                   (rest-drawable job (s .next) (s .rest) (s .slots) (s .loading) good g) (d .more) (d .held) (h .covers);
             };
         waits = λ s w g h. h;
@@ -71,9 +71,9 @@ module _ (job : Job) (good : Proper job) (rule : Rule) where
       → (ended : ℕ) × (ended + underOf (s .loading) ≡ s .loads) × (length (missesOf job) ≤ ended)
   ended-least t s e over =
       let starts : CoveredState (start job) =
-      record { ended = 0; all = omega arith; covers = covered-start (job .draws) (job .starting) (once-start (job .starting) (good .single)) } in
+      record { ended = 0; all = omega arith; covers = covered-start job (job .draws) (job .starting) (once-start (job .starting) (good .single)) } in
       let h : CoveredState s = reached-sanely job rule CoveredState CoveredState CoveredState good covered-moves starts t s e in
-      (h .ended, h .all, covered-over (length (missesOf job)) (s .next) (s .rest) (s .slots) (h .ended) over (h .covers))
+      (h .ended, h .all, covered-over job (length (missesOf job)) (s .next) (s .rest) (s .slots) (h .ended) over (h .covers))
 
 -- Conservative of a job against a run to the last draw of any other rule: the loads that it makes have ended in the other, and it takes at
 -- most twice the other's ticks.
