@@ -77,10 +77,11 @@ same-last : (q t : ℕ) (begun : List Loaded) → Each (λ u. u ≤ t) (map load
 unfolding lastLoad
 same-last q t [] h = refl
 same-last q t (loaded u d r x ∷ begun) h =
-    rw (same-last q t begun (λ i m. h (suc i) (omega arith)), le-leb u t (h 0 (omega arith)), le-leb u (t + 1) (let b : u ≤ t = h 0 (omega arith) in omega arith))
+    let now : u ≤ t = h 0 (omega arith) in
+    rw (same-last q t begun (λ i m. h (suc i) (omega arith)), le-leb u t now, le-leb u (t + 1) (omega arith))
 
 -- So a slot into which all loads have ended holds the same a tick later.
-stays : (starting time t q : ℕ) (begun : List Loaded) → Each (λ u. u + time ≤ t) (map loadTick begun)
+pub stays : (starting time t q : ℕ) (begun : List Loaded) → Each (λ u. u + time ≤ t) (map loadTick begun)
     → leaves starting time (t + 1) (lastLoad q (t + 1) (map eventOf begun)) ≡ leaves starting time t (lastLoad q t (map eventOf begun))
 stays starting time t q begun h =
     rw (same-last q t begun (λ i m. let b : getD (map loadTick begun) i 0 + time ≤ t = h i m in omega arith))
@@ -99,7 +100,13 @@ holds-begins job tick next q x slots begun some-time row h r inside =
     (λ e.
     let same : q ≡ r = eqb-true q r e in
     let within : r < length slots = omega arith in
-    rw (same, map-snoc, getD-set-same slots r free 0 within, last-here r tick tick x (map eventOf begun) (omega arith), lt-leb (tick + job .time) tick (omega arith)))
+    rw (
+      same,
+      map-snoc,
+      getD-set-same slots r free 0 within,
+      last-here r tick tick x (map eventOf begun) (omega arith),
+      lt-leb (tick + job .time) tick (omega arith),
+    ))
     (λ e.
     let other : q ≡ r → ⊥ = eqb-false q r e in
     let apart : r ≡ q → ⊥ = λ f. other (sym f) in
@@ -117,9 +124,11 @@ module _ (time end q x : ℕ) (begun : List Loaded) (l : Last time end q x begun
       → leaves starting time (t + 1) (lastLoad r (t + 1) (map eventOf begun)) ≡ leaves starting time t (lastLoad r t (map eventOf begun))
   elsewhere-stays starting t r h began =
       rw (elsewhere (t + 1) r h, elsewhere t r h)
-      (stays starting time t r (l .before) (λ i m. let b : getD (map loadTick (l .before)) i 0 + time ≤ l .tick = l .ended i m in omega arith))
+      (stays starting time t r (l .before)
+      (λ i m. let b : getD (map loadTick (l .before)) i 0 + time ≤ l .tick = l .ended i m in omega arith))
 
-holds-passes : (job : Job) (tick next : ℕ) (rest slots : List ℕ) (loading : Loading) (begun : List Loaded) → Sane job next rest slots loading
+holds-passes : (job : Job) (tick next : ℕ) (rest slots : List ℕ) (loading : Loading) (begun : List Loaded)
+    → Sane job next rest slots loading
     → Busy (job .time) (tick + 1) tick loading begun → Holds job tick slots begun → Holds job (tick + 1) (landedSlots loading slots) begun
 holds-passes job tick next rest slots Idle begun g b h r inside =
     h r inside
@@ -158,7 +167,9 @@ holds-passes job tick next rest slots (Under (suc left) q x) begun g b h r insid
       here (job .time) (tick + suc left + 1) q x begun l (tick + 1) (omega arith),
       lt-leb (l .tick + job .time) (tick + 1) (omega arith),
     ))
-    (λ e. h r inside ∙ sym (elsewhere-stays (job .time) (tick + suc left + 1) q x begun l (getD (job .starting) r 0) tick r (eqb-false q r e) began))
+    (λ e.
+    h r inside
+    ∙ sym (elsewhere-stays (job .time) (tick + suc left + 1) q x begun l (getD (job .starting) r 0) tick r (eqb-false q r e) began))
 
 -- ---- A run along a list
 

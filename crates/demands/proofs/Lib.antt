@@ -1,3 +1,5 @@
 pub mod Holding
 pub mod Witness
+pub mod Events
 pub mod Only
+pub mod Exactly

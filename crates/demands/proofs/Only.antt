@@ -35,28 +35,41 @@ module _ (job : Job) (events : List Event) (f x : ℕ) where
       let high : q ≤ q′ = no-lower t q′ q here d in
       (same, omega arith)
 
-module _ (job : Job) (events : List Event) (ticks slots ticks′ slots′ : List ℕ) (answer answer′ : Answer)
-    (sheet : Sheet job events ticks slots answer) (sheet′ : Sheet job events ticks′ slots′ answer′) where
-  -- Draw by draw the two sheets agree, since they look for a draw from the same tick on.
-  same-from : (i : ℕ) → i < length (job .draws) → from ticks i ≡ from ticks′ i → (getD ticks i 0 ≡ getD ticks′ i 0) × (getD slots i 0 ≡ getD slots′ i 0)
-  same-from i h e = one-draw job events (from ticks i) (getD (job .draws) i 0) _ _ _ _ (sheet .drawn i h) (rw e (sheet′ .drawn i h))
+-- Two rows of draws agree draw by draw, since a draw is looked for from the same tick on in both.
+abbrev pub DrawnUpTo : Job → List Event → ℕ → List ℕ → List ℕ → Type 0
+DrawnUpTo job events n ticks slots =
+    (i : ℕ) → i < n → DrawnAt job events (from ticks i) (getD ticks i 0) (getD slots i 0) (getD (job .draws) i 0)
 
-  looked-alike : (i : ℕ) → i ≤ length (job .draws) → from ticks i ≡ from ticks′ i
+module _ (job : Job) (events : List Event) (n : ℕ) (ticks slots ticks′ slots′ : List ℕ)
+    (drawn : DrawnUpTo job events n ticks slots) (drawn′ : DrawnUpTo job events n ticks′ slots′) where
+  same-from : (i : ℕ) → i < n → from ticks i ≡ from ticks′ i → (getD ticks i 0 ≡ getD ticks′ i 0) × (getD slots i 0 ≡ getD slots′ i 0)
+  same-from i h e = one-draw job events (from ticks i) (getD (job .draws) i 0) _ _ _ _ (drawn i h) (rw e (drawn′ i h))
+
+  pub looked-alike : (i : ℕ) → i ≤ n → from ticks i ≡ from ticks′ i
   looked-alike zero h = refl
-  looked-alike (suc i) h = ap (λ (n : ℕ). n + 1) (same-from i h (looked-alike i (omega arith)) .0)
+  looked-alike (suc i) h = ap (λ (t : ℕ). t + 1) (same-from i h (looked-alike i (omega arith)) .0)
 
-  drawn-alike : (i : ℕ) → i < length (job .draws) → (getD ticks i 0 ≡ getD ticks′ i 0) × (getD slots i 0 ≡ getD slots′ i 0)
+  drawn-alike : (i : ℕ) → i < n → (getD ticks i 0 ≡ getD ticks′ i 0) × (getD slots i 0 ≡ getD slots′ i 0)
   drawn-alike i h = same-from i h (looked-alike i (omega arith))
 
-  -- Two sheets that are right have the same ticks, the same slots and the same counts.
-  pub only-sheet : (ticks ≡ ticks′) × (slots ≡ slots′) × (answer .elapsed ≡ answer′ .elapsed) × (answer .waits ≡ answer′ .waits) × (answer .loads ≡ answer′ .loads)
-  only-sheet =
-      let n : ℕ = length (job .draws) in
-      let together : from ticks n ≡ from ticks′ n = looked-alike n (omega arith) in
-      let elapsed : answer .elapsed ≡ answer′ .elapsed = sheet .elapsed ∙ together ∙ sym (sheet′ .elapsed) in (
-        ext-getD 0 ticks ticks′ (sheet .a-tick-each ∙ sym (sheet′ .a-tick-each)) (λ i h. drawn-alike i (rw (sheet .a-tick-each) at h) .0),
-        ext-getD 0 slots slots′ (sheet .a-slot-each ∙ sym (sheet′ .a-slot-each)) (λ i h. drawn-alike i (rw (sheet .a-slot-each) at h) .1),
-        elapsed,
-        omega arith,
-        sheet .loads ∙ sym (sheet′ .loads),
-      )
+-- Two sheets that are right have the same ticks, the same slots and the same counts.
+pub only-sheet : (job : Job) (events : List Event) (ticks slots ticks′ slots′ : List ℕ) (answer answer′ : Answer)
+    → Sheet job events ticks slots answer → Sheet job events ticks′ slots′ answer′
+    → (ticks ≡ ticks′)
+    × (slots ≡ slots′)
+    × (answer .elapsed ≡ answer′ .elapsed)
+    × (answer .waits ≡ answer′ .waits)
+    × (answer .loads ≡ answer′ .loads)
+only-sheet job events ticks slots ticks′ slots′ answer answer′ sheet sheet′ =
+    let n : ℕ = length (job .draws) in
+    let alike : (i : ℕ) → i < n → (getD ticks i 0 ≡ getD ticks′ i 0) × (getD slots i 0 ≡ getD slots′ i 0) =
+    drawn-alike job events n ticks slots ticks′ slots′ (sheet .drawn) (sheet′ .drawn) in
+    let together : from ticks n ≡ from ticks′ n =
+    looked-alike job events n ticks slots ticks′ slots′ (sheet .drawn) (sheet′ .drawn) n (omega arith) in
+    let elapsed : answer .elapsed ≡ answer′ .elapsed = sheet .elapsed ∙ together ∙ sym (sheet′ .elapsed) in (
+      ext-getD 0 ticks ticks′ (sheet .a-tick-each ∙ sym (sheet′ .a-tick-each)) (λ i h. alike i (rw (sheet .a-tick-each) at h) .0),
+      ext-getD 0 slots slots′ (sheet .a-slot-each ∙ sym (sheet′ .a-slot-each)) (λ i h. alike i (rw (sheet .a-slot-each) at h) .1),
+      elapsed,
+      omega arith,
+      sheet .loads ∙ sym (sheet′ .loads),
+    )

@@ -17,7 +17,7 @@ use Rattle.rules.specs.Refusals.{follow, tickOf, slotOf, ticksOf, slotsOf, answ
 use Rattle.laws.proofs.Cases.{by-test}
 use Rattle.laws.proofs.Rows.{map-snoc, length-snoc}
 use Rattle.laws.proofs.Search.{place-holds, place-first, absent-at}
-use Rattle.laws.proofs.Moves.{Upon, upon, Draws, reached}
+use Rattle.laws.proofs.Moves.{Moves, Upon, upon, Draws, reached}
 use Rattle.laws.proofs.Jobs.{Proper, proper}
 use Rattle.laws.proofs.Sane.{SaneState, sane, remaining, awaited-is}
 use Rattle.laws.proofs.Counts.{CountedState, counted}
@@ -32,13 +32,13 @@ from-snoc ticks t zero h = refl
 from-snoc ticks t (suc i) h = ap (λ (n : ℕ). n + 1) (List·getD-append ticks (t ∷ []) 0 i h)
 
 -- The draws made so far are as they must be, and the one awaited could not have been made since.
-record Witnessed (job : Job) (events : List Event) (tick next : ℕ) (ticks slots : List ℕ) : Type 0 where
-  made : (i : ℕ) → i < next → DrawnAt job events (from ticks i) (getD ticks i 0) (getD slots i 0) (getD (job .draws) i 0)
-  since : from ticks next ≤ tick
-  waited : (u r : ℕ) → from ticks next ≤ u → u < tick → r < job .slots → held job events u r ≡ getD (job .draws) next 0 → ⊥
-  over : next ≡ length (job .draws) → tick ≡ from ticks next
-  all-ticks : length ticks ≡ next
-  all-slots : length slots ≡ next
+pub record Witnessed (job : Job) (events : List Event) (tick next : ℕ) (ticks slots : List ℕ) : Type 0 where
+  pub made : (i : ℕ) → i < next → DrawnAt job events (from ticks i) (getD ticks i 0) (getD slots i 0) (getD (job .draws) i 0)
+  pub since : from ticks next ≤ tick
+  pub waited : (u r : ℕ) → from ticks next ≤ u → u < tick → r < job .slots → held job events u r ≡ getD (job .draws) next 0 → ⊥
+  pub over : next ≡ length (job .draws) → tick ≡ from ticks next
+  pub all-ticks : length ticks ≡ next
+  pub all-slots : length slots ≡ next
 
 module _ (job : Job) (events : List Event) (tick next : ℕ) (ticks slots : List ℕ) (w : Witnessed job events tick next ticks slots) where
   drawn-next : (q : ℕ) → DrawnAt job events (from ticks next) tick q (getD (job .draws) next 0)
@@ -54,7 +54,11 @@ module _ (job : Job) (events : List Event) (tick next : ℕ) (ticks slots : List
             let before : i < next = ltb-true i next t in
             let in-ticks : i < length ticks = omega arith in
             let in-slots : i < length slots = omega arith in
-            rw (from-snoc ticks tick i (omega arith), List·getD-append ticks (tick ∷ []) 0 i in-ticks, List·getD-append slots (q ∷ []) 0 i in-slots) (w .made i before))
+            rw (
+              from-snoc ticks tick i (omega arith),
+              List·getD-append ticks (tick ∷ []) 0 i in-ticks,
+              List·getD-append slots (q ∷ []) 0 i in-slots,
+            ) (w .made i before))
             (λ t.
             let last : i ≡ next = let far : next ≤ i = ltb-false i next t in omega arith in
             rw (last, from-snoc ticks tick next (omega arith), at-tick, at-slot) d);
@@ -104,12 +108,14 @@ module _ (job : Job) (events : List Event) (s : State) (g : HoldingBegun job eve
         soonest = w .waited;
       }
 
-  unheld-now : stands (awaited s) (s .slots) ≡ false → (r : ℕ) → r < job .slots → held job events (s .tick) r ≡ getD (job .draws) (s .next) 0 → ⊥
+  -- A symbol that stands in no slot is held by none.
+  pub unheld-now : stands (awaited s) (s .slots) ≡ false → (r : ℕ) → r < job .slots
+      → held job events (s .tick) r ≡ getD (job .draws) (s .next) 0 → ⊥
   unheld-now unheld r inside e =
       let row : length (s .slots) ≡ job .slots = g .0 .0 .0 .row in
       absent-at (awaited s) (s .slots) unheld r (rw row inside) (shown job events s g r inside ∙ e ∙ sym awaits)
 
-abbrev WitnessedState : Job → List Event → State → Type 0
+abbrev pub WitnessedState : Job → List Event → State → Type 0
 WitnessedState job events s = Witnessed job events (s .tick) (s .next) (map tickOf (s .made)) (map slotOf (s .made))
 
 witness-moves : (job : Job) (events : List Event)
@@ -141,12 +147,23 @@ witness-start job events =
       all-slots = refl;
     }
 
-witnessed : (job : Job) (events : List Event) → Proper job → Ruly 0 events → (t : ℕ) (s : State) → run job (follow events) t (start job) ≡ going s
-    → WitnessedState job events s
+-- All that is known of a run along a list is kept by its moves.
+pub witnessing-moves : (job : Job) (events : List Event) → 1 ≤ job .time
+    → Moves job (follow events)
+    (λ s. HoldingBetween job events s × WitnessedState job events s)
+    (λ s. HoldingLanded job events s × WitnessedState job events s)
+    (λ s. HoldingBegun job events s × WitnessedState job events s)
+witnessing-moves job events some-time = upon job (follow events) _ _ _ _ _ _ (holding-moves job events some-time) (witness-moves job events)
+
+pub witnessing-start : (job : Job) (events : List Event) → Proper job → Ruly 0 events
+    → HoldingBetween job events (start job) × WitnessedState job events (start job)
+witnessing-start job events p ordered = (holding-start job events p ordered, witness-start job events)
+
+pub witnessed : (job : Job) (events : List Event) → Proper job → Ruly 0 events → (t : ℕ) (s : State)
+    → run job (follow events) t (start job) ≡ going s → WitnessedState job events s
 witnessed job events p ordered t s e =
-    reached job (follow events) _ _ _
-    (upon job (follow events) _ _ _ _ _ _ (holding-moves job events (p .some-time)) (witness-moves job events))
-    t (start job) s (holding-start job events p ordered, witness-start job events) e .1
+    reached job (follow events) _ _ _ (witnessing-moves job events (p .some-time))
+    t (start job) s (witnessing-start job events p ordered) e .1
 
 -- The sheet that an accepted check reports is right by the list alone: for each draw the slot reported holds its symbol at the tick
 -- reported, no lower slot does, and no slot did at any tick since the draw before.

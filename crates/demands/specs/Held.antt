@@ -1,9 +1,9 @@
 -- What a slot holds at a tick, said from the load list alone, with no run of the display, and what a sheet of draw ticks and slots must
 -- be by that. A reader who does not trust the display's ticks can trust a sheet by this file.
 use Prim.Native.Nat.{ℕ, zero, suc, _+_, _<_, _≤_}
-use mathlib.Core.Path.{_≡_}
+use mathlib.Core.Path.{_≡_, refl}
 use mathlib.Core.Bool.{cond, _&&_}
-use mathlib.Core.List.{List, [], _∷_}
+use mathlib.Core.List.{List, [], _∷_, map}
 use lib.ListN.{length, getD}
 use lib.Dec.{eqb, leb}
 use Rattle.rules.specs.declared.Answer.{Answer}
@@ -15,6 +15,7 @@ pub data LastLoad : Type 0 where
   none : LastLoad
   last : (tick symbol : ℕ) → LastLoad
 
+-- A load, or where there was none another.
 abbrev pub orElse : LastLoad → LastLoad → LastLoad
 orElse none before = before
 orElse (last u x) before = last u x
@@ -52,7 +53,7 @@ from ticks (suc i) = getD ticks i 0 + 1
 
 -- A whole sheet as a check reports it: a tick and a slot to each draw, and the answer's counts.
 --     drawn      each draw is made at the first tick after the draw before it at which some slot holds its symbol
---     elapsed    the sheet is over in the tick after the last draw, at tick 0 where there is none
+--     elapsed    the ticks up to the last draw and its own, none where there is no draw
 --     waits      every other tick was a wait
 --     loads      every event was begun
 pub record Sheet (job : Job) (events : List Event) (ticks slots : List ℕ) (answer : Answer) : Type 0 where
@@ -63,3 +64,10 @@ pub record Sheet (job : Job) (events : List Event) (ticks slots : List ℕ) (ans
   pub elapsed : answer .elapsed ≡ from ticks (length (job .draws))
   pub waits : answer .waits + length (job .draws) ≡ answer .elapsed
   pub loads : answer .loads ≡ length events
+
+-- Row e of document 01: slot 1 of job a holds symbol 2, then nothing from tick 2 on, when the load begins, and symbol 3 from tick 6 on.
+row-e : map (λ t. held (record { slots = 2; time = 4; starting = 1 ∷ 2 ∷ []; draws = 1 ∷ 2 ∷ 3 ∷ 1 ∷ [] }) (event 2 1 3 ∷ []) t 1)
+    (0 ∷ 1 ∷ 2 ∷ 3 ∷ 4 ∷ 5 ∷ 6 ∷ 7 ∷ [])
+    ≡ 2 ∷ 2 ∷ free ∷ free ∷ free ∷ free ∷ 3 ∷ 3 ∷ []
+unfolding lastLoad
+row-e = refl

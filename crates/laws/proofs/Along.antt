@@ -26,9 +26,11 @@ use Rattle.laws.proofs.Counts.{ahead}
 
 -- ---- Events in order, from a lowest tick on
 
+-- No event is out of order: each tick is above the one before it, and none is over the limit.
 abbrev pub Ruly : ℕ → List Event → Type 0
 Ruly least l = unruly least l ≡ length l
 
+-- The search for the first that is stops at the list's end.
 pub unruly-within : (least : ℕ) (l : List Event) → unruly least l ≤ length l
 unfolding unruly
 unruly-within least [] = omega arith
@@ -49,7 +51,8 @@ ruly-first least t q x l h =
 
 ruly-more : (least : ℕ) (l : List Event) → Ruly least l → 0 < length l → least ≤ last-tick
 ruly-more least [] h more = absurd (omega arith)
-ruly-more least (event t q x ∷ l) h more = let f : (least ≤ t) × (t ≤ last-tick) × Ruly (t + 1) l = ruly-first least t q x l h in omega arith
+ruly-more least (event t q x ∷ l) h more =
+    let f : (least ≤ t) × (t ≤ last-tick) × Ruly (t + 1) l = ruly-first least t q x l h in omega arith
 
 ruly-later : (least t q x : ℕ) (l : List Event) → Ruly least (event t q x ∷ l) → least < t → Ruly (least + 1) (event t q x ∷ l)
 unfolding unruly
@@ -119,7 +122,8 @@ module _ (time : ℕ) (events : List Event) where
       record { so-far = h .so-far; some = h .some; to-come = h .to-come; in-time = in-time }
 
   -- A draw takes a tick and is one of the ticks allowed; a wait takes one from the load under way, or waits for an event to come.
-  draw-in-time : (tick next loads : ℕ) (loading : Loading) (begun : List Loaded) → Along time (tick + 1) tick next loads events loading begun
+  draw-in-time : (tick next loads : ℕ) (loading : Loading) (begun : List Loaded)
+      → Along time (tick + 1) tick next loads events loading begun
       → tick + 1 + ahead (landedLoading loading) ≤ last-tick + time + (next + 1) + 1
   draw-in-time tick next loads Idle begun h = omega arith
   draw-in-time tick next loads (Under zero q x) begun h = omega arith
@@ -136,6 +140,7 @@ module _ (time : ℕ) (events : List Event) where
   wait-in-time tick next loads (Under zero q x) begun hope h = omega arith
   wait-in-time tick next loads (Under (suc left) q x) begun hope h = omega arith
 
+-- The same of a state: between ticks as it will be once the coming tick has landed what ends in it, then within the tick.
 abbrev pub AlongBetween : Job → List Event → State → Type 0
 AlongBetween job events s = Along (job .time) (s .tick) (s .tick) (s .next) (s .loads) events (landedLoading (s .loading)) (s .begun)
 
@@ -145,6 +150,7 @@ AlongLanded job events s = Along (job .time) (s .tick) (s .tick) (s .next) (s .l
 abbrev pub AlongBegun : Job → List Event → State → Type 0
 AlongBegun job events s = Along (job .time) (s .tick + 1) (s .tick) (s .next) (s .loads) events (s .loading) (s .begun)
 
+-- Every move of a run along a list keeps it so, and it is so at the start.
 pub along-moves : (job : Job) (events : List Event) → 1 ≤ job .time
     → Moves job (follow events) (AlongBetween job events) (AlongLanded job events) (AlongBegun job events)
 along-moves job events some-time =

@@ -67,6 +67,7 @@ followed job events p s e =
     let all : length events ≤ s .loads = rw same at (ltb-false (last .loads) (length events) c) in
     (ordered, ran′, omega arith)))
 
+-- A check that comes to a state is such a one.
 pub accepted : (job list : List ℕ) (ticks slots : ℕ) (s : State) → checked job list ticks slots ≡ going s → Accepted job list ticks slots s
 unfolding checked
 accepted job list ticks slots s e =

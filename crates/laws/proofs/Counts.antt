@@ -19,6 +19,7 @@ use Rattle.laws.proofs.Sane.{none-under, one-under, SaneState, SaneMove
 
 -- ---- Draws, waits and loads
 
+-- The counts of a state, with the ticks and slots of its draws.
 pub record Counted (k tick next waits loads : ℕ) (made : List Drawn) (begun : List Loaded) : Type 0 where
   pub ticks : tick ≡ next + waits
   pub drawn-all : length made ≡ next
@@ -27,6 +28,7 @@ pub record Counted (k tick next waits loads : ℕ) (made : List Drawn) (begun : 
   pub rising : Spaced 1 (map tickOf made)
   pub slots : Each (λ q. q < k) (map slotOf made)
 
+-- The same of a state.
 abbrev pub CountedState : Job → State → Type 0
 CountedState job s = Counted (job .slots) (s .tick) (s .next) (s .waits) (s .loads) (s .made) (s .begun)
 
@@ -47,12 +49,16 @@ counted-draws : (k tick next waits loads : ℕ) (made : List Drawn) (begun : Lis
 counted-draws k tick next waits loads made begun q slot h =
     let e : length made ≡ next = h .drawn-all in
     let g : tick ≡ next + waits = h .ticks in
+    let sooner : Each (λ t. t < tick + 1) (map tickOf made) =
+    λ i m. let b : getD (map tickOf made) i 0 < tick = h .past i m in omega arith in
+    let earlier : Each (λ t. t + 1 ≤ tick) (map tickOf made) =
+    λ i m. let b : getD (map tickOf made) i 0 < tick = h .past i m in omega arith in
     record {
       ticks = omega arith;
       drawn-all = length-snoc made (drawn tick q) ∙ ap (λ (n : ℕ). n + 1) e;
       begun-all = h .begun-all;
-      past = rw map-snoc (each-snoc (λ t. t < tick + 1) (map tickOf made) tick (λ i m. let b : getD (map tickOf made) i 0 < tick = h .past i m in omega arith) (omega arith));
-      rising = rw map-snoc (spaced-snoc 1 (map tickOf made) tick (h .rising) (λ i m. let b : getD (map tickOf made) i 0 < tick = h .past i m in omega arith));
+      past = rw map-snoc (each-snoc (λ t. t < tick + 1) (map tickOf made) tick sooner (omega arith));
+      rising = rw map-snoc (spaced-snoc 1 (map tickOf made) tick (h .rising) earlier);
       slots = rw map-snoc (each-snoc (λ r. r < k) (map slotOf made) q (h .slots) slot);
     }
 
@@ -109,6 +115,7 @@ elapsed job rule p t s e over =
 
 -- ---- The loader
 
+-- The tick at which a load was begun.
 abbrev pub loadTick : Loaded → ℕ
 loadTick (loaded t d q x) = t
 
@@ -143,7 +150,8 @@ BusyLanded job s = Busy (job .time) (s .tick) (s .tick) (s .loading) (s .begun)
 abbrev pub BusyBegun : Job → State → Type 0
 BusyBegun job s = Busy (job .time) (s .tick + 1) (s .tick) (s .loading) (s .begun)
 
-busy-begins : (time tick d q x : ℕ) (loading : Loading) (begun : List Loaded) → 1 ≤ time → loading ≡ Idle → Busy time tick tick loading begun
+busy-begins : (time tick d q x : ℕ) (loading : Loading) (begun : List Loaded) → 1 ≤ time → loading ≡ Idle
+    → Busy time tick tick loading begun
     → Busy time (tick + 1) tick (Under (time - 1) q x) (begun ++ (loaded tick d q x ∷ []))
 busy-begins time tick d q x loading begun some-time quiet h =
     let none : ahead loading ≡ 0 = ap ahead quiet in
@@ -188,6 +196,7 @@ busy-passes time tick (Under (suc left) q x) begun h =
           one-under (λ l r y. Last time (tick + 1 + l + 1) r y begun) left q x left′ q′ x′ (rw (← sooner) (h .last (suc left) q x refl)) e;
     }
 
+-- Every move keeps the loader so, and it is so at the start.
 pub busy-moves : (job : Job) (rule : Rule) → 1 ≤ job .time → Moves job rule (BusyBetween job) (BusyLanded job) (BusyBegun job)
 busy-moves job rule some-time =
     record {

@@ -37,6 +37,7 @@ pub record Passed (job : List ℕ) (shape : Shape) : Type 0 where
   pub symbols-right : badSymbols (startingOf job) (drawsOf job) ≡ false
   pub shape-read : shapeOf job ≡ shape
 
+-- The tests are told apart by the numbers of their refusals.
 pub passed : (job : List ℕ) (shape : Shape) → readJob job ≡ Taken shape → Passed job shape
 passed job shape e =
     by-test (badJobLength job) (λ t. refused-is-not-taken 1 shape (rw t at e)) (λ t₁.

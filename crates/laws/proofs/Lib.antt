@@ -11,3 +11,4 @@ pub mod Sane
 pub mod Counts
 pub mod Along
 pub mod Checks
+pub mod Goes

@@ -2,12 +2,12 @@
 -- holds of every state that a run comes to. The moves are the same for every rule.
 use Prim.Native.Nat.{ℕ, zero, suc, _<_}
 use native.Mathlib.Omega.{arith}
-use mathlib.Core.Path.{_≡_, refl, subst}
+use mathlib.Core.Path.{_≡_, refl, ap, subst}
 use mathlib.Core.Bool.{Bool, true, false}
 use mathlib.Core.List.{List, [], _∷_}
 use lib.ListN.{length}
 use lib.Dec.{eqb}
-use borrow.Author.Tests.{ltb-true, eqb-true, eqb-false}
+use borrow.Author.Tests.{ltb-true, lt-ltb, eqb-true, eqb-false, ne-eqb}
 use Rattle.rules.specs.declared.Begun.{Begun}
 use Rattle.rules.specs.declared.Begun.the-variants.{Load, NoLoad}
 use Rattle.rules.specs.declared.Loading.{Loading}
@@ -78,10 +78,18 @@ load-taken job q x s e =
     (λ l. let z : _≡_ {A = ℕ} 11 0 = rw (i, l) at e in absurd (omega arith)))
     (λ i. let z : _≡_ {A = ℕ} 10 0 = rw i at e in absurd (omega arith))
 
+-- The other way round, such a load is not refused.
+pub load-free : (job : Job) (q x : ℕ) (s : State) → s .loading ≡ Idle → q < job .slots → (x ≡ free → ⊥) → stands x (s .slots) ≡ false
+    → loadNumber job q x s ≡ 0
+load-free job q x s quiet slot symbol nowhere =
+    let i : idle (s .loading) ≡ true = ap idle quiet in
+    rw (i, lt-ltb q (job .slots) slot, ne-eqb x free symbol, nowhere)
+
 is-idle : (loading : Loading) → idle loading ≡ true → loading ≡ Idle
 is-idle Idle e = refl
 is-idle (Under left q x) e = let z : _≡_ {A = ℕ} 0 1 = cc in absurd (omega arith)
 
+-- A run is over exactly when no draw remains.
 pub is-more : (rest : List ℕ) → finished rest ≡ false → 0 < length rest
 is-more [] e = let z : _≡_ {A = ℕ} 0 1 = cc in absurd (omega arith)
 is-more (x ∷ rest) e = omega arith
@@ -104,7 +112,7 @@ abbrev pub Moves : Job → Rule → (State → Type 0) → (State → Type 0) �
 Moves job rule P L B = Steps job rule P L B P
 
 module _ (job : Job) (rule : Rule) (P L B A : State → Type 0) (keeps : Steps job rule P L B A) where
-  begun-kept : (b : Begun) (s s′ : State) → rule .asks s ≡ b → 0 < length (s .rest) → L s → beginning job b s ≡ going s′
+  pub begun-kept : (b : Begun) (s s′ : State) → rule .asks s ≡ b → 0 < length (s .rest) → L s → beginning job b s ≡ going s′
       → (0 < length (s′ .rest)) × B s′
   unfolding beginning
   begun-kept NoLoad s s′ a more h e =

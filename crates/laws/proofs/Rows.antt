@@ -9,6 +9,7 @@ use lib.Dec.{ltb}
 use borrow.Author.Tests.{ltb-true, ltb-false}
 use Rattle.laws.proofs.Cases.{by-test}
 
+-- One more at the end.
 pub map-snoc : {A B : Type 0} (f : A → B) (l : List A) (a : A) → map f (l ++ (a ∷ [])) ≡ map f l ++ (f a ∷ [])
 map-snoc f [] a = refl
 map-snoc {A} {B} f (x ∷ l) a = ap {B = List B} (λ (r : List B). f x ∷ r) (map-snoc f l a)
@@ -20,6 +21,7 @@ length-snoc l a = length-append l (a ∷ [])
 abbrev pub Each : (ℕ → Type 0) → List ℕ → Type 0
 Each P l = (i : ℕ) → i < length l → P (getD l i 0)
 
+-- So it is where one more is.
 pub each-snoc : (P : ℕ → Type 0) (l : List ℕ) (x : ℕ) → Each P l → P x → Each P (l ++ (x ∷ []))
 each-snoc P l x all new i h =
     let h′ : i < length l + 1 = rw length-snoc at h in
@@ -31,6 +33,7 @@ each-snoc P l x all new i h =
 abbrev pub Spaced : ℕ → List ℕ → Type 0
 Spaced gap l = (i j : ℕ) → i < j → j < length l → getD l i 0 + gap ≤ getD l j 0
 
+-- So it is where one more stands as far above them all.
 pub spaced-snoc : (gap : ℕ) (l : List ℕ) (x : ℕ) → Spaced gap l → Each (λ y. y + gap ≤ x) l → Spaced gap (l ++ (x ∷ []))
 spaced-snoc gap l x spaced below i j before h =
     let h′ : j < length l + 1 = rw length-snoc at h in

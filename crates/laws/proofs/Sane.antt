@@ -41,6 +41,15 @@ apart-start (x ∷ l) e (suc i) (suc j) hi hj same full =
     let (alone, later) = neither (not (eqb x free) && stands x l) (doubled l) e in
     ap suc (apart-start l later i j (omega arith) (omega arith) same full)
 
+-- A slot that takes a symbol that stood in none is the only one that holds it.
+only-there : (l : List ℕ) (q x i : ℕ) → stands x l ≡ false → i < length l → getD (set l q x) i 0 ≡ x → i ≡ q
+only-there l q x i nowhere h e =
+    by-test (eqb i q) (eqb-true i q)
+    (λ t. absurd (absent-at x l nowhere i h (sym (getD-set-other l q i x 0 (eqb-false i q t)) ∙ e)))
+
+there-now : (l : List ℕ) (q x i : ℕ) → i < length l → i ≡ q → getD (set l q x) i 0 ≡ x
+there-now l q x i h e = let inside : q < length l = omega arith in rw e (getD-set-same l q x 0 inside)
+
 -- It stays so where a slot takes a symbol that stood in none, and where it takes nothing.
 pub apart-set : (l : List ℕ) (q x : ℕ) → Apart l → ((x ≡ free → ⊥) → stands x l ≡ false) → Apart (set l q x)
 apart-set l q x apart new i j hi hj same full =
@@ -48,26 +57,26 @@ apart-set l q x apart new i j hi hj same full =
     let hj′ : j < length l = rw length-set at hj in
     by-test (eqb i q)
     (λ ti.
-    let ei : i ≡ q = eqb-true i q ti in
-    let inside : q < length l = omega arith in
-    let at : getD (set l q x) i 0 ≡ x = rw ei (getD-set-same l q x 0 inside) in
-    by-test (eqb j q)
-    (λ tj. let ej : j ≡ q = eqb-true j q tj in omega arith)
-    (λ tj.
-    absurd (absent-at x l (new (λ f. full (at ∙ f))) j hj′ (sym (getD-set-other l q j x 0 (eqb-false j q tj)) ∙ sym same ∙ at))))
+    let here : i ≡ q = eqb-true i q ti in
+    let at : getD (set l q x) i 0 ≡ x = there-now l q x i hi′ here in
+    here ∙ sym (only-there l q x j (new (λ f. full (at ∙ f))) hj′ (sym same ∙ at)))
     (λ ti.
-    let at : getD (set l q x) i 0 ≡ getD l i 0 = getD-set-other l q i x 0 (eqb-false i q ti) in
     by-test (eqb j q)
     (λ tj.
-    let ej : j ≡ q = eqb-true j q tj in
-    let inside : q < length l = omega arith in
-    let there : getD (set l q x) j 0 ≡ x = rw ej (getD-set-same l q x 0 inside) in
-    absurd (absent-at x l (new (λ f. full (same ∙ there ∙ f))) i hi′ (sym at ∙ same ∙ there)))
+    let here : j ≡ q = eqb-true j q tj in
+    let at : getD (set l q x) i 0 ≡ x = same ∙ there-now l q x j hj′ here in
+    only-there l q x i (new (λ f. full (at ∙ f))) hi′ at ∙ sym here)
     (λ tj.
+    let at : getD (set l q x) i 0 ≡ getD l i 0 = getD-set-other l q i x 0 (eqb-false i q ti) in
     let there : getD (set l q x) j 0 ≡ getD l j 0 = getD-set-other l q j x 0 (eqb-false j q tj) in
     apart i j hi′ hj′ (sym at ∙ same ∙ there) (λ f. full (at ∙ f))))
 
 -- A load under way.
+--     slot       its slot is one of the job's
+--     empty      that slot holds nothing
+--     symbol     what it brings is a symbol
+--     nowhere    no slot holds that symbol
+--     soon       it ends within the load time
 pub record Underway (job : Job) (slots : List ℕ) (left q x : ℕ) : Type 0 where
   pub slot : q < job .slots
   pub empty : getD slots q 0 ≡ free
@@ -75,6 +84,10 @@ pub record Underway (job : Job) (slots : List ℕ) (left q x : ℕ) : Type 0 whe
   pub nowhere : stands x slots ≡ false
   pub soon : left < job .time
 
+-- A sane state, over those of its fields that it speaks of.
+--     ahead, within    the draws that remain are the job's from the next draw on
+--     row, apart       there are k slots, and no symbol stands in two of them
+--     under            a load under way is as said above
 pub record Sane (job : Job) (next : ℕ) (rest slots : List ℕ) (loading : Loading) : Type 0 where
   pub ahead : rest ≡ drop next (job .draws)
   pub within : next ≤ length (job .draws)
@@ -82,12 +95,17 @@ pub record Sane (job : Job) (next : ℕ) (rest slots : List ℕ) (loading : Load
   pub apart : Apart slots
   pub under : (left q x : ℕ) → loading ≡ Under left q x → Underway job slots left q x
 
+-- The same of a state.
 abbrev pub SaneState : Job → State → Type 0
 SaneState job s = Sane job (s .next) (s .rest) (s .slots) (s .loading)
 
 -- An idle loader has no load under way, and one at work has one.
 pub none-under : {A : Type 0} (left q x : ℕ) → Idle ≡ Under left q x → A
 none-under left q x e = let z : _≡_ {A = ℕ} 0 1 = cc in absurd (omega arith)
+
+pub idle-if-none : (loading : Loading) → ((left q x : ℕ) → loading ≡ Under left q x → ⊥) → loading ≡ Idle
+idle-if-none Idle none = refl
+idle-if-none (Under left q x) none = absurd (none left q x refl)
 
 pub one-under : (P : ℕ → ℕ → ℕ → Type 0) (left q x left′ q′ x′ : ℕ) → P left q x → Under left q x ≡ Under left′ q′ x′ → P left′ q′ x′
 one-under P left q x left′ q′ x′ p e =
@@ -159,6 +177,7 @@ module _ (job : Job) (next : ℕ) (rest slots : List ℕ) where
         under = h .under;
       }
 
+-- Every move keeps a state sane, and the start is.
 pub sane-moves : (job : Job) (rule : Rule) → 1 ≤ job .time → Moves job rule (SaneState job) (SaneState job) (SaneState job)
 sane-moves job rule some-time =
     record {
@@ -182,7 +201,7 @@ sane-start job p =
 -- Whatever the rule, a run from the start comes to sane states only.
 pub sane : (job : Job) (rule : Rule) → Proper job → (t : ℕ) (s : State) → run job rule t (start job) ≡ going s → SaneState job s
 sane job rule p t s e =
-    reached job rule (SaneState job) (SaneState job) (SaneState job) (sane-moves job rule (p .some-time)) t (start job) s (sane-start job p) e
+    reached job rule _ _ _ (sane-moves job rule (p .some-time)) t (start job) s (sane-start job p) e
 
 -- So what else a run keeps may be shown of sane states only.
 abbrev pub SaneMoves : Job → Rule → (State → Type 0) → (State → Type 0) → (State → Type 0) → Type 0
@@ -200,7 +219,8 @@ abbrev pub settled : Loading → List ℕ → List ℕ
 settled Idle slots = slots
 settled (Under left q x) slots = set slots q x
 
-pub settled-apart : (job : Job) (next : ℕ) (rest slots : List ℕ) (loading : Loading) → Sane job next rest slots loading → Apart (settled loading slots)
+pub settled-apart : (job : Job) (next : ℕ) (rest slots : List ℕ) (loading : Loading) → Sane job next rest slots loading
+    → Apart (settled loading slots)
 settled-apart job next rest slots Idle h = h .apart
 settled-apart job next rest slots (Under left q x) h = apart-set slots q x (h .apart) (λ f. h .under left q x refl .nowhere)
 

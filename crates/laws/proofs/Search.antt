@@ -11,6 +11,7 @@ use borrow.Author.Tests.{ltb-true, ltb-false, lt-ltb, eqb-true, eqb-false, eq-eq
 use Rattle.rules.specs.Basics.{place, stands}
 use Rattle.laws.proofs.Cases.{by-test}
 
+-- It finds a place, or goes to the row's end.
 pub place-within : (x : ℕ) (l : List ℕ) → place x l ≤ length l
 unfolding place
 place-within x [] = omega arith
@@ -23,7 +24,8 @@ pub place-holds : (x : ℕ) (l : List ℕ) → place x l < length l → getD l (
 unfolding place
 place-holds x [] h = absurd (omega arith)
 place-holds x (y ∷ l) h =
-    by-test (eqb x y) (λ e. rw e (sym (eqb-true x y e))) (λ e. rw e (place-holds x l (let g : suc (place x l) < suc (length l) = rw e at h in omega arith)))
+    by-test (eqb x y) (λ e. rw e (sym (eqb-true x y e)))
+    (λ e. let g : suc (place x l) < suc (length l) = rw e at h in rw e (place-holds x l (omega arith)))
 
 -- No place before it does: the search finds the first.
 pub place-first : (x : ℕ) (l : List ℕ) (i : ℕ) → i < length l → getD l i 0 ≡ x → place x l ≤ i
@@ -34,13 +36,14 @@ place-first x (y ∷ l) (suc i) h e =
     let more : place x l ≤ i = place-first x l i (omega arith) e in
     by-test (eqb x y) (λ t. rw t (omega arith)) (λ t. rw t (omega arith))
 
--- What stands in no place of a row is not what any place holds, and the other way round.
+-- What does not stand in a row is held by none of its places.
 pub absent-at : (x : ℕ) (l : List ℕ) → stands x l ≡ false → (i : ℕ) → i < length l → getD l i 0 ≡ x → ⊥
 absent-at x l e i h f =
     let far : length l ≤ place x l = ltb-false (place x l) (length l) e in
     let near : place x l ≤ i = place-first x l i h f in
     omega arith
 
+-- What none of its places holds does not stand in it, and what one of them holds does.
 pub absent : (x : ℕ) (l : List ℕ) → ((i : ℕ) → i < length l → getD l i 0 ≡ x → ⊥) → stands x l ≡ false
 absent x l none =
     by-test (stands x l)
