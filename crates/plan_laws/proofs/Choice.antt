@@ -64,7 +64,7 @@ chosen-furthest row slots i h =
     rw (← getD-map (rank row) slots i h, ← getD-map (rank row) slots q less) (rw held upto)
 
 -- The rank of a symbol is its place, and what has its rank within the row is a symbol.
-pub rank-symbol : (row : List ℕ) (x : ℕ) → (x ≡ free → ⊥) → rank row x ≡ place x row
+rank-symbol : (row : List ℕ) (x : ℕ) → (x ≡ free → ⊥) → rank row x ≡ place x row
 rank-symbol row x h = rw (ne-eqb x free h)
 
 rank-least : (row : List ℕ) (x : ℕ) → rank row x ≤ length row → place x row ≤ rank row x
@@ -107,14 +107,17 @@ chosen-useful row slots j none few h =
 unfoldable pub choice : Job → ℕ → List ℕ → List ℕ → ℕ
 choice job d rest slots = furthest rest slots
 
+-- It is the slot that opt takes in a state.
 pub choice-is : (job : Job) (s : State) → furthest (ahead s) (s .slots) ≡ choice job (s .next) (s .rest) (s .slots)
 unfolding choice
 choice-is job s = refl
 
+-- It is one of the slots.
 pub choice-below : (job : Job) (d : ℕ) (rest slots : List ℕ) → 0 < length slots → choice job d rest slots < length slots
 unfolding choice
 choice-below job d rest slots h = chosen-below rest slots h
 
+-- If what it holds is among the next j draws, every slot is useful.
 pub choice-useful : (job : Job) (d : ℕ) (rest slots : List ℕ) (j : ℕ) → stands free rest ≡ false → j ≤ length rest
     → 0 < soon rest j (getD slots (choice job d rest slots) 0) → useful slots rest j ≡ length slots
 unfolding choice

@@ -27,6 +27,7 @@ pub wait-used : (loading : Loading) → (loading ≡ Idle → true ≡ false) �
 wait-used Idle h = let never : true ≡ false = h refl in let impossible : _≡_ {A = ℕ} 0 1 = cc in absurd (omega arith)
 wait-used (Under left q x) h = omega arith
 
+-- One load more is F ticks more.
 pub one-more : (f l : ℕ) → f * (l + 1) ≡ f * l + f
 one-more f l = mul-add f l 1 ∙ ap (λ (n : ℕ). f * l + n) (mul-one f)
 

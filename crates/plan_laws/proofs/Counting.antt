@@ -26,10 +26,11 @@ soon rest j x = min 1 (j - place x rest)
 abbrev pub useful : List ℕ → List ℕ → ℕ → ℕ
 useful slots rest j = total (soon rest j) slots
 
--- 1 for a given symbol, else 0, and how many slots hold it.
+-- 1 for a given symbol, else 0.
 abbrev pub same : ℕ → ℕ → ℕ
 same x y = cond (eqb x y) 1 0
 
+-- How many slots hold a given symbol.
 abbrev pub holders : ℕ → List ℕ → ℕ
 holders x slots = total (same x) slots
 
@@ -58,6 +59,7 @@ total-most f (x ∷ l) h =
     let first : f x ≤ 1 = h x in
     omega arith
 
+-- It is that number where each is 1.
 pub total-full : (f : ℕ → ℕ) (l : List ℕ) → ((i : ℕ) → i < length l → f (getD l i 0) ≡ 1) → total f l ≡ length l
 unfolding total
 total-full f [] h = refl
@@ -66,23 +68,27 @@ total-full f (x ∷ l) h =
     let first : f x ≡ 1 = h 0 (omega arith) in
     omega arith
 
--- A symbol counts where its place is before the j-th draw from now, and only there.
+-- A symbol counts whose place is before the j-th draw from now.
 pub soon-yes : (rest : List ℕ) (j x : ℕ) → place x rest < j → soon rest j x ≡ 1
 unfolding soon
 soon-yes rest j x h = omega arith
 
+-- A symbol whose place is not before the j-th draw does not count.
 pub soon-not : (rest : List ℕ) (j x : ℕ) → j ≤ place x rest → soon rest j x ≡ 0
 unfolding soon
 soon-not rest j x h = omega arith
 
+-- A symbol that counts has its place before the j-th draw.
 pub soon-place : (rest : List ℕ) (j x : ℕ) → 0 < soon rest j x → place x rest < j
 unfolding soon
 soon-place rest j x h = omega arith
 
+-- A symbol counts at most once.
 pub soon-most : (rest : List ℕ) (j x : ℕ) → soon rest j x ≤ 1
 unfolding soon
 soon-most rest j x = omega arith
 
+-- No more slots are useful than there are.
 pub useful-most : (slots rest : List ℕ) (j : ℕ) → useful slots rest j ≤ length slots
 useful-most slots rest j = total-most (soon rest j) slots (soon-most rest j)
 
@@ -124,7 +130,7 @@ unfolding total
 draw-last x rest j [] h = refl
 draw-last x rest j (y ∷ slots) h = rw (soon-last x rest j y h, draw-last x rest j slots h) (omega arith)
 
--- A draw of x where some slot holds it, where at most one does, and where none does.
+-- A draw of x, by the slots that hold it.
 module _ (x : ℕ) (rest : List ℕ) (j : ℕ) (slots : List ℕ) where
   either : {P : Type 0} → (soon rest j x ≡ 1 → P) → (soon rest j x ≡ 0 → P) → P
   either again last =
@@ -132,16 +138,19 @@ module _ (x : ℕ) (rest : List ℕ) (j : ℕ) (slots : List ℕ) where
       (λ e. again (soon-yes rest j x (ltb-true _ _ e)))
       (λ e. last (soon-not rest j x (ltb-false _ _ e)))
 
+  -- Where some slot holds x, a useful slot is lost unless x is drawn soon again.
   pub drawn-held : 0 < holders x slots → useful slots rest j + 1 ≤ useful slots (x ∷ rest) (suc j) + soon rest j x
   drawn-held h = either (λ e. omega (arith, draw-again x rest j slots e)) (λ e. omega (arith, draw-last x rest j slots e))
 
+  -- Where at most one does, no more than that one is lost.
   pub drawn-once : holders x slots ≤ 1 → useful slots (x ∷ rest) (suc j) + soon rest j x ≤ useful slots rest j + 1
   drawn-once h = either (λ e. omega (arith, draw-again x rest j slots e)) (λ e. omega (arith, draw-last x rest j slots e))
 
+  -- Where none does, nothing changes.
   pub drawn-unheld : holders x slots ≡ 0 → useful slots (x ∷ rest) (suc j) ≡ useful slots rest j
   drawn-unheld h = either (λ e. omega (arith, draw-again x rest j slots e)) (λ e. omega (arith, draw-last x rest j slots e))
 
--- Some slot holds x exactly where the search finds it.
+-- Some slot holds x where the search finds it.
 pub holders-found : (x : ℕ) (slots : List ℕ) → stands x slots ≡ true → 0 < holders x slots
 unfolding total
 holders-found x [] h = absurd (omega (arith, ltb-true (place x []) 0 h))
@@ -149,6 +158,7 @@ holders-found x (y ∷ slots) h =
     by-test (eqb x y) (λ e. rw e (omega arith))
     (λ e. omega (arith, holders-found x slots (rw e at (sym (stands-cons x y slots) ∙ h))))
 
+-- And none does where it is not found.
 pub holders-unfound : (x : ℕ) (slots : List ℕ) → stands x slots ≡ false → holders x slots ≡ 0
 unfolding total
 holders-unfound x [] h = refl

@@ -40,7 +40,7 @@ unfolding happened
 goes-through s h =
     (moved (happeningOf s) s, rw (unstuck (s .loading) (awaited s) (s .slots) true (λ quiet unheld. sym (h quiet) ∙ unheld)))
 
--- Where a plan is ready, the tick is not refused.
+-- Where a plan is ready, the tick is not refused, whether a load begins in it or not.
 module _ (job : Job) (asks : State → Begun) (s : State) (ready : Ready job asks (land s)) where
   begins-or-not : (b : Begun) → asks (land s) ≡ b
       → (s′ : State) × (then (beginning job b (land s)) (λ z. happened (happeningOf z) true z) ≡ going s′)
@@ -50,6 +50,7 @@ module _ (job : Job) (asks : State → Begun) (s : State) (ready : Ready job ask
       let (s′, h) = goes-through (begin job q x (land s)) (λ i. let z : _≡_ {A = ℕ} 0 1 = cc in absurd (omega arith)) in
       (s′, rw (ready .permitted q x e) h)
 
+  -- The tick goes on to a next state.
   pub goes-on : (s′ : State) × (tick job (asking asks) s ≡ going s′)
   unfolding tick
   goes-on = begins-or-not (asks (land s)) refl

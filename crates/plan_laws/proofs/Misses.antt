@@ -25,17 +25,20 @@ module _ (job : Job) where
       let missed : List Miss = miss d q x ∷ misses (d + 1) (set slots q x) rest in
       cond (stands x slots) drawn missed
 
+  -- A draw that some slot holds is no miss.
   pub misses-hit : (d : ℕ) (slots : List ℕ) (x : ℕ) (rest : List ℕ) → stands x slots ≡ true
       → misses d slots (x ∷ rest) ≡ misses (d + 1) slots rest
   unfolding misses
   misses-hit d slots x rest h = rw h
 
+  -- A draw that no slot holds is one.
   pub misses-miss : (d : ℕ) (slots : List ℕ) (x : ℕ) (rest : List ℕ) → stands x slots ≡ false
       → misses d slots (x ∷ rest)
       ≡ miss d (choice job d (x ∷ rest) slots) x ∷ misses (d + 1) (set slots (choice job d (x ∷ rest) slots) x) rest
   unfolding misses
   misses-miss d slots x rest h = rw h
 
+  -- With no draws to come there are none.
   pub misses-over : (d : ℕ) (slots rest : List ℕ) → rest ≡ [] → misses d slots rest ≡ []
   unfolding misses
   misses-over d slots rest over = rw over
@@ -89,6 +92,7 @@ module _ (job : Job) where
             ∙ f .early (omega (arith, place-further (getD slots q 0) y rest other));
       }
 
+  -- The first of the misses is such a one.
   pub first : (d : ℕ) (slots rest : List ℕ) (m q x : ℕ) (later : List Miss) → 0 < length slots
       → misses d slots rest ≡ miss m q x ∷ later → First d slots rest m q x later
   first d slots [] m q x later h e = absurd (no-first d slots (miss m q x) later e)
@@ -105,12 +109,13 @@ module _ (job : Job) where
       let behind : misses (d + 1) (set slots (choice job d (y ∷ rest) slots) y) rest ≡ later = cc in
       rw (← place, ← slot, ← symbol, ← behind) (first-now d slots y rest h missing))
 
-  -- The next draw, hit or missed, where the draws that remain are not taken apart.
+  -- A next draw that some slot holds is no miss.
   pub misses-drawn : (d : ℕ) (slots rest : List ℕ) → 0 < length rest → stands (getD rest 0 0) slots ≡ true
       → misses d slots rest ≡ misses (d + 1) slots (drop 1 rest)
   misses-drawn d slots [] more held = absurd (omega arith)
   misses-drawn d slots (x ∷ rest) more held = misses-hit d slots x rest held
 
+  -- A next draw that no slot holds is the first miss, and its load may be made before it is drawn.
   pub misses-now : (d : ℕ) (slots rest : List ℕ) → 0 < length slots → 0 < length rest → stands (getD rest 0 0) slots ≡ false
       → misses d slots rest
       ≡ miss d (choice job d rest slots) (getD rest 0 0) ∷ misses d (set slots (choice job d rest slots) (getD rest 0 0)) rest

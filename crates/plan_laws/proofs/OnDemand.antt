@@ -29,6 +29,7 @@ pub record Demanded (slot : State → ℕ) (q x : ℕ) (s : State) : Type 0 wher
   pub to : slot s ≡ q
   pub symbol : awaited s ≡ x
 
+-- What such a plan asks for is a load on demand.
 pub demanded : (slot : State → ℕ) (q x : ℕ) (s : State) → on-demand slot .asks s ≡ Load q x → Demanded slot q x s
 demanded slot q x s e =
     let (test, to, symbol) = asked-load (wanting s) (slot s) (awaited s) q x e in
@@ -67,9 +68,10 @@ module _ (job : Job) (proper : Proper job) (slot : State → ℕ) (below : (s : 
   demand-done =
       done job proper (on-demand slot .asks) Rising demand-moves (omega arith) (λ s more g h. demand-ready s more g) (rising-few job)
 
--- Opt and lru take the furthest slot along a row of draws.
+-- Opt takes the furthest slot along the draws to come, lru along those made. Opt is done in time.
 pub opt-done : (job : Job) → Proper job → Done job opt Rising
 opt-done job proper = demand-done job proper (λ s. furthest (ahead s) (s .slots)) (chosen-slot job proper ahead)
 
+-- Lru is done in time.
 pub lru-done : (job : Job) → Proper job → Done job (lru job) Rising
 lru-done job proper = demand-done job proper (λ s. furthest (behind job s) (s .slots)) (chosen-slot job proper (behind job))

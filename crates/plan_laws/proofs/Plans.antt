@@ -22,6 +22,7 @@ use Rattle.plan_laws.proofs.OnDemand.{opt-done, lru-done}
 use Rattle.plan_laws.proofs.Aggressive.{aggressive-done}
 use Rattle.plan_laws.proofs.Conservative.{conservative-done}
 
+-- Nothing more is asked of a last state.
 abbrev pub Any : State → Type 0
 Any s = Unit {0}
 

@@ -19,6 +19,7 @@ use Rattle.laws.proofs.Sane.{SaneState, SaneMoves, settled, awaited-symbol, rem
 use Rattle.plan_laws.proofs.States.{settled-landed, settled-holds}
 use Rattle.plan_laws.proofs.Search.{place-here, place-further, stands-new, stands-kept}
 
+-- The first missing draw, a draw at a time.
 missing-hit : (slots : List ℕ) (x : ℕ) (rest : List ℕ) → stands x slots ≡ true → missing slots (x ∷ rest) ≡ suc (missing slots rest)
 unfolding missing
 missing-hit slots x rest h = rw h
@@ -27,6 +28,7 @@ missing-miss : (slots : List ℕ) (x : ℕ) (rest : List ℕ) → stands x slots
 unfolding missing
 missing-miss slots x rest h = rw h
 
+-- The first missing draw is a remaining one, or their number.
 pub missing-most : (slots rest : List ℕ) → missing slots rest ≤ length rest
 missing-most slots [] = unfold missing in omega arith
 missing-most slots (x ∷ rest) =
@@ -44,12 +46,13 @@ missing-absent slots (x ∷ rest) h =
     rw further (missing-absent slots rest (omega arith)))
     (λ e. rw (missing-miss slots x rest e) e)
 
--- Where the next draw's symbol is in a slot it is not the first missing one, and else it is.
+-- Where the next draw's symbol is in a slot it is not the first missing one.
 pub missing-drawn : (slots rest : List ℕ) → 0 < length rest → stands (getD rest 0 0) slots ≡ true
     → missing slots rest ≡ suc (missing slots (drop 1 rest))
 missing-drawn slots [] h e = absurd (omega arith)
 missing-drawn slots (x ∷ rest) h e = missing-hit slots x rest e
 
+-- Where it is in none, it is the first missing one.
 pub missing-now : (slots rest : List ℕ) → 0 < length rest → stands (getD rest 0 0) slots ≡ false → missing slots rest ≡ 0
 missing-now slots [] h e = absurd (omega arith)
 missing-now slots (x ∷ rest) h e = missing-miss slots x rest e
