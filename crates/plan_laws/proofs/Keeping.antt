@@ -6,7 +6,7 @@ use mathlib.Core.Path.{_≡_, refl, _∙_}
 use mathlib.Core.List.{[], map}
 use lib.ListN.{length}
 use Rattle.rules.specs.declared.Begun.{Begun}
-use Rattle.rules.specs.Job.{Job}
+use Rattle.rules.specs.Job.{Job, most-time, most-draws}
 use Rattle.rules.specs.LoadList.{last-tick}
 use Rattle.rules.specs.Display.{State, Rule, going, start, land, tick, finished, run}
 use Rattle.rules.specs.Plans.{asking, runPlan}
@@ -89,8 +89,9 @@ module _ (job : Job) (proper : Proper job) (asks : State → Begun) (P : State �
       let prompt : s .waits ≤ job .time * s .loads = waits-few job asks (proper .some-time) last-tick s e in
       let counts = counted job (asking asks) proper last-tick s e in
       let drawn : s .next ≤ length (job .draws) = here .within in
-      let limit : length (job .draws) ≤ 4096 = proper .few-draws in
-      let product : job .time * s .loads ≤ 1000 * 4096 = mul-le-mul {n₂ = 1000} {m₂ = 4096} (proper .little-time) (omega arith) in
+      let limit : length (job .draws) ≤ most-draws = proper .few-draws in
+      let product : job .time * s .loads ≤ most-time * most-draws =
+      mul-le-mul {n₂ = most-time} {m₂ = most-draws} (proper .little-time) (omega arith) in
       let soon : s .tick < last-tick = omega (arith, counts .ticks) in
       let over : s .rest ≡ [] =
       by-test (finished (s .rest)) (is-over (s .rest))

@@ -10,7 +10,7 @@ use Rattle.rules.specs.declared.JobReading.the-variants.{Taken}
 use Rattle.rules.specs.declared.ListReading.the-variants.{Listed, Unreadable}
 use Rattle.rules.specs.declared.Shape.{Shape}
 use Rattle.rules.specs.Job.{Job, jobOf, drawsOf}
-use Rattle.rules.specs.LoadList.{Event, head-size, event-size, listBytes}
+use Rattle.rules.specs.LoadList.{Event, most-events, head-size, event-size, listBytes}
 use Rattle.rules.specs.Display.{State, going}
 use Rattle.rules.specs.Plans.{last-plan, ruleOf}
 use Rattle.rules.specs.Refusals.{readJob, badList, inOrder, checked, planned, eventOf, writtenBy, answerOf}
@@ -42,7 +42,7 @@ planned-done job shape p room taken known enough d =
     rw (taken, le-ltb last-plan p known, le-ltb room (head-size + event-size * length (drawsOf job)) enough, d .ran, d .over)
 
 -- A list that was written can be read.
-written-read : (l : List Event) → length l ≤ 4096 → badList (listBytes l) ≡ false
+written-read : (l : List Event) → length l ≤ most-events → badList (listBytes l) ≡ false
 written-read l few =
     by-test (badList (listBytes l))
     (λ t.
@@ -52,7 +52,7 @@ written-read l few =
     (λ t. t)
 
 -- A list in order, checked as the bytes that are written for it, with places enough.
-written-checked : (job : List ℕ) (shape : Shape) (l : List Event) (ticks slots : ℕ) → readJob job ≡ Taken shape → length l ≤ 4096
+written-checked : (job : List ℕ) (shape : Shape) (l : List Event) (ticks slots : ℕ) → readJob job ≡ Taken shape → length l ≤ most-events
     → length (drawsOf job) ≤ ticks → length (drawsOf job) ≤ slots → checked job (listBytes l) ticks slots ≡ inOrder (jobOf job) l
 unfolding checked
 written-checked job shape l ticks slots taken few ticks-room slots-room =
@@ -74,11 +74,11 @@ plan-checked job shape p room ticks slots taken known enough ticks-room slots-ro
     let d : Done (jobOf job) (ruleOf (jobOf job) p) Any = plan-done (jobOf job) good p in
     let accepted : planned job p room ≡ going (d .last) = planned-done job shape p room taken known enough d in
     let events : List Event = map eventOf (d .last .begun) in
-    let few : length events ≤ 4096 =
+    let few : length events ≤ most-events =
     omega (arith, length-map (d .last .begun) eventOf, d .listed, d .few, good .few-draws) in
     (d .last, accepted, rw accepted (written-checked job shape events ticks slots taken few ticks-room slots-room ∙ d .replays))
 
--- So it answers the same.
+-- So a check of what a plan wrote answers what the plan answered.
 pub plan-answers : (job : List ℕ) (shape : Shape) (p room ticks slots : ℕ) → readJob job ≡ Taken shape → p ≤ last-plan
     → head-size + event-size * length (drawsOf job) ≤ room → length (drawsOf job) ≤ ticks → length (drawsOf job) ≤ slots
     → answerOf (checked job (writtenBy (planned job p room)) ticks slots) ≡ answerOf (planned job p room)
