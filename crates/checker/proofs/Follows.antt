@@ -34,9 +34,9 @@ never-stuck job q x s done =
     (λ e. rw e (by-test (eqb (getD (s .rest) 0 0) x) (λ same. rw same) (λ other. rw other)))
 
 late-done : (job : Job) (asked : Begun) (s : State) (done : Bool) (ends : State → Bool)
-  → ends s ≡ done
-  → then (beginning job asked s) (λ b. happened (recordOf asked b .happening) done b)
-  ≡ then (beginning job asked s) (λ b. happened (recordOf asked b .happening) (ends b) b)
+    → ends s ≡ done
+    → then (beginning job asked s) (λ b. happened (recordOf asked b .happening) done b)
+    ≡ then (beginning job asked s) (λ b. happened (recordOf asked b .happening) (ends b) b)
 unfolding beginning happened
 late-done job NoLoad s done ends e = rw e
 late-done job (Load q x) s done ends e =
@@ -58,13 +58,13 @@ same-leads k f g (Went tick) later e = ap (λ (h : Beside). going (view k h late
 same-leads k f g (Refused number detail) later e = refl
 
 same-counts : (o : Outcome) (d l later : Display) → l .tick ≡ d .tick → l .next ≡ d .next → l .waits ≡ d .waits → l .loads ≡ d .loads
-  → counted 1 o l later → counted 1 o d later
+    → counted 1 o l later → counted 1 o d later
 same-counts (Went tick) d l later t n w m counts = later-counts 0 1 (tick .happening) d l later t n w (omega arith) counts
 same-counts (Refused number detail) d l later t n w m counts = tt
 
 -- The symbol that is awaited, read from the job's bytes.
 awaited-read : (job : List ℕ) (next : ℕ) (rest : List ℕ) → next < shapeOf job .draws → rest ≡ drop next (drawsOf job)
-  → getD rest 0 0 ≡ number16 job (draws-at (shapeOf job .slots) + 2 * next)
+    → getD rest 0 0 ≡ number16 job (draws-at (shapeOf job .slots) + 2 * next)
 awaited-read job next rest h e =
     let there : next + 0 ≡ next = omega arith in
     ap (λ (l : List ℕ). getD l 0 0) e
@@ -95,12 +95,12 @@ module _ (d l : Display) (lands : (k : ℕ) (h : Beside) → view k h l ≡ land
       record { tick = omega arith; next = omega arith; waits = omega arith }
 
   pub followed : (job : List ℕ) (events : List Event) (asked : Begun) (symbol : ℕ) (done : Bool) (r : Ticked)
-    → symbol ≡ number16 job (draws-at (shapeOf job .slots) + 2 * l .next)
-    → d .next < shapeOf job .draws
-    → asked ≡ due (drop (l .loads) events) (l .tick)
-    → done ≡ leb (length events) (l .loads)
-    → Advanced (shapeOf job .slots) (shapeOf job .time) l asked symbol done r
-    → Followed (jobOf job) events d r
+      → symbol ≡ number16 job (draws-at (shapeOf job .slots) + 2 * l .next)
+      → d .next < shapeOf job .draws
+      → asked ≡ due (drop (l .loads) events) (l .tick)
+      → done ≡ leb (length events) (l .loads)
+      → Advanced (shapeOf job .slots) (shapeOf job .time) l asked symbol done r
+      → Followed (jobOf job) events d r
   unfolding tick
   followed job events asked symbol done r read within asks ends advanced =
       let k : ℕ = shapeOf job .slots in
@@ -114,6 +114,6 @@ module _ (d l : Display) (lands : (k : ℕ) (h : Beside) → view k h l ≡ land
             ∙ ap (λ (s : State). then (beginning (jobOf job) asked s) (λ b. happened (recordOf asked b .happening) done b)) (lands k h)
             ∙ late-done (jobOf job) asked (land (view k h d)) done (follow events .done) ends′
             ∙ ap
-              (λ (x : Begun). then (beginning (jobOf job) x (land (view k h d))) (λ b. happened (recordOf x b .happening) (follow events .done b) b))
-              asks′;
+            (λ (x : Begun). then (beginning (jobOf job) x (land (view k h d))) (λ b. happened (recordOf x b .happening) (follow events .done b) b))
+            asks′;
       }

@@ -1,2 +1,5 @@
 pub mod Follows
 pub mod Walks
+pub mod Ends
+pub mod Copies
+pub mod Answers

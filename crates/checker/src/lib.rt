@@ -1,5 +1,6 @@
 // The check of any load list against any job: the walk along the list, the run, and the answer with its draws.
 mod answer;
+mod copy;
 mod run;
 mod walk;
 

@@ -1,11 +1,20 @@
 // The run of a display along a load list.
 use crate::walk::event_of;
-use display::{advance, land, start, Display, Outcome, Ticked};
-use rules::{Answer, Begun, EventReading, Happening, Shape};
+use display::Display;
+use display::Outcome;
+use display::Ticked;
+use display::advance;
+use display::land;
+use display::start;
+use rules::Answer;
+use rules::Begun;
+use rules::EventReading;
+use rules::Happening;
+use rules::Shape;
 ghost use mathlib.Core.Path.{_≡_};
 ghost use Prim.Native.Nat.{_≤_, _<_};
 ghost use lib.ListN.{length, drop};
-ghost use Rattle.rules.specs.Job.{shapeOf, jobOf};
+ghost use Rattle.rules.specs.Job.{shapeOf, drawsOf, jobOf};
 ghost use Rattle.rules.specs.LoadList.{eventsIn, head-size};
 ghost use Rattle.rules.specs.Display.{refused};
 ghost use Rattle.rules.specs.Refusals.{answerOf, due, unruly, follows};
@@ -21,7 +30,12 @@ pub fn first_unruly(list: &[u8], count: u16) -> u32
     let mut least: u32 = 0;
     while index < count as u32 {
         let reading = event_of(list, index);
-        let EventReading::Event { tick, slot: _, symbol: _ } = reading else {
+        let EventReading::Event {
+            tick,
+            slot: _,
+            symbol: _,
+        } = reading
+        else {
             return index;
         };
         if 8388607 < tick {
@@ -45,7 +59,12 @@ fn asked_of(list: &[u8], count: u16, loads: u32, tick: u32) -> Begun
         return Begun::NoLoad;
     }
     let reading = event_of(list, loads);
-    let EventReading::Event { tick: at, slot, symbol } = reading else {
+    let EventReading::Event {
+        tick: at,
+        slot,
+        symbol,
+    } = reading
+    else {
         return Begun::NoLoad;
     };
     if at == tick {
@@ -104,7 +123,6 @@ pub fn refusal(number: u32, detail: u32) -> Answer
 
 // The end of a run that was not refused on the way: accepted, unless an event is left. (Refusal 14)
 fn finish(d: Display, count: u16) -> Ran
-    requires { ⌜ d .next ≤ 4096 ⌝ }
     ensures { λ r. ⌜ Finished count d r ⌝ }
 {
     if d.loads < count as u32 {
@@ -126,9 +144,16 @@ fn finish(d: Display, count: u16) -> Ran
 }
 
 // The run of the whole list, with the draws noted in the two buffers.
-pub fn run_list(job: &[u8], list: &[u8], shape: Shape, count: u16, ticks: &mut [u32], slots: &mut [u8]) -> Ran
+pub fn run_list(
+    job: &[u8],
+    list: &[u8],
+    shape: Shape,
+    count: u16,
+    ticks: &mut [u32],
+    slots: &mut [u8],
+) -> Ran
     requires { ⌜ Ready (now job) (now list) shape count (now ticks) (now slots) ⌝ }
-    ensures { λ r. ⌜ Shown (follows (jobOf (now (job .entry))) (eventsIn count (drop head-size (now (list .entry))))) r (now (ticks .exit)) (now (slots .exit)) ⌝ }
+    ensures { λ r. ⌜ Shown (length (drawsOf (now (job .entry)))) (follows (jobOf (now (job .entry))) (eventsIn count (drop head-size (now (list .entry))))) r (now (ticks .exit)) (now (slots .exit)) ⌝ }
 {
     let mut d = start(sheet::starting_slots(job, shape.slots));
     let mut left: u32 = 8388608 + shape.time as u32 + shape.draws as u32;

@@ -54,7 +54,7 @@ moved-counts k d r (Wait cause) h e =
 
 -- The counters over two moves: from d to b, with at most so many loads begun, and from b on.
 pub later-counts : (extra most : ℕ) (hp : Happening) (d b r : Display) → b .tick ≡ d .tick → b .next ≡ d .next → b .waits ≡ d .waits → b .loads ≤ d .loads + extra
-  → Counted most hp b r → Counted (extra + most) hp d r
+    → Counted most hp b r → Counted (extra + most) hp d r
 later-counts extra most hp d b r t n w l counts =
     let tick′ : r .tick ≡ b .tick + 1 = counts .tick in
     let waits′ : r .waits ≤ b .waits + 1 = counts .waits in
@@ -67,7 +67,7 @@ later-counts extra most hp d b r t n w l counts =
     }
 
 module _ (k : ℕ) (d : Display) (asked : Begun) (symbol : ℕ) (done : Bool) (happening : Happening)
-  (known : happening ≡ happeningOf (view k (awaiting symbol) d)) where
+    (known : happening ≡ happeningOf (view k (awaiting symbol) d)) where
   pub settled-refused : stuck happening done ≡ true → Settled k d asked symbol done (record { outcome = Refused 13 (d .next); display = d })
   unfolding happened
   settled-refused halts =
@@ -80,9 +80,9 @@ module _ (k : ℕ) (d : Display) (asked : Begun) (symbol : ℕ) (done : Bool) (h
       }
 
   pub settled-went : stuck happening done ≡ false
-    → (r : Display)
-    → ((h : Beside) → view k (besideMade d happening h) r ≡ moved happening (view k h d))
-    → Settled k d asked symbol done (record { outcome = Went (record { begun = asked; happening = happening }); display = r })
+      → (r : Display)
+      → ((h : Beside) → view k (besideMade d happening h) r ≡ moved happening (view k h d))
+      → Settled k d asked symbol done (record { outcome = Went (record { begun = asked; happening = happening }); display = r })
   unfolding happened
   settled-went goes r led =
       let not-stuck : stuck (happeningOf (view k (awaiting symbol) d)) done ≡ false = ap (λ (x : Happening). stuck x done) (sym known) ∙ goes in
@@ -103,9 +103,9 @@ same-made d d′ (Wait cause) h e = refl
 
 -- A tick leads to the same whether the load begun in it is told from its record or from what was asked.
 same-lead : (k : ℕ) (d d′ : Display) (h : Beside) (asked : Begun) (done : Bool) (b : State) (o : Outcome) (later : Display)
-  → o ≡ outcomeOf asked done (going b)
-  → d′ .tick ≡ d .tick
-  → leads k (λ tick. onward d tick h) o later ≡ leads k (λ tick. besideMade d′ (tick .happening) (besideBegun d asked h)) o later
+    → o ≡ outcomeOf asked done (going b)
+    → d′ .tick ≡ d .tick
+    → leads k (λ tick. onward d tick h) o later ≡ leads k (λ tick. besideMade d′ (tick .happening) (besideBegun d asked h)) o later
 same-lead k d d′ h asked done b o later e same =
     by-test (stuck (happeningOf b) done)
     (λ halts. let is-refused : o ≡ Refused 13 (b .next) = e ∙ rw halts in rw is-refused)
@@ -134,10 +134,10 @@ module _ (k time : ℕ) (d : Display) (symbol : ℕ) (done : Bool) where
 
   -- A load that is refused.
   pub advanced-refused : (asked : Begun) (q x number : ℕ)
-    → asked ≡ Load q x
-    → number ≡ loadNumber (shaped k 0) q x (view k (awaiting 0) d)
-    → (number ≡ 0 → ⊥)
-    → Advanced k time d asked symbol done (record { outcome = Refused number (d .loads); display = d })
+      → asked ≡ Load q x
+      → number ≡ loadNumber (shaped k 0) q x (view k (awaiting 0) d)
+      → (number ≡ 0 → ⊥)
+      → Advanced k time d asked symbol done (record { outcome = Refused number (d .loads); display = d })
   unfolding beginning
   advanced-refused asked q x number load known f =
       record {
@@ -149,7 +149,7 @@ module _ (k time : ℕ) (d : Display) (symbol : ℕ) (done : Bool) where
 
   -- A load that begins, with b the display behind it.
   module _ (q x : ℕ) (b : Display)
-    (begins : (k : ℕ) (h : Beside) (job : Job) → job .time ≡ time → view k (begunNow d q x h) b ≡ begin job q x (view k h d)) where
+      (begins : (k : ℕ) (h : Beside) (job : Job) → job .time ≡ time → view k (begunNow d q x h) b ≡ begin job q x (view k h d)) where
     same-tick : b .tick ≡ d .tick
     same-tick = ap (λ (s : State). s .tick) (begins k (awaiting symbol) (shaped k time) refl)
 
@@ -172,11 +172,11 @@ module _ (k time : ℕ) (d : Display) (symbol : ℕ) (done : Bool) where
         (λ e. rw (e, under-way) (by-test (eqb symbol x) (λ same. rw same) (λ other. rw other)))
 
     pub advanced-load : (asked : Begun) (r : Ticked) (number : ℕ)
-      → asked ≡ Load q x
-      → number ≡ loadNumber (shaped k 0) q x (view k (awaiting 0) d)
-      → number ≡ 0
-      → Settled k b asked symbol done r
-      → Advanced k time d asked symbol done r
+        → asked ≡ Load q x
+        → number ≡ loadNumber (shaped k 0) q x (view k (awaiting 0) d)
+        → number ≡ 0
+        → Settled k b asked symbol done r
+        → Advanced k time d asked symbol done r
     unfolding beginning
     advanced-load asked r number load known none settled =
         let taken : eqb (loadNumber (shaped k 0) q x (view k (awaiting 0) d)) 0 ≡ true = eq-eqb _ 0 (sym known ∙ none) in
@@ -185,7 +185,7 @@ module _ (k time : ℕ) (d : Display) (symbol : ℕ) (done : Bool) where
           outcome =
               settled .outcome
               ∙ rw (load, taken)
-                (ap (λ (s : State). outcomeOf (Load q x) done (going s)) (begins k (awaiting symbol) (shaped k time) refl));
+              (ap (λ (s : State). outcomeOf (Load q x) done (going s)) (begins k (awaiting symbol) (shaped k time) refl));
           keeps = rw went tt;
           counts =
               rw went
@@ -194,8 +194,8 @@ module _ (k time : ℕ) (d : Display) (symbol : ℕ) (done : Bool) where
           run = λ h job e slots′ time′.
               same-lead k d b h asked done (view k (awaiting symbol) b) (r .outcome) (r .display) (settled .outcome) same-tick
               ∙ rw (load, slots′, taken)
-                (settled .run (begunNow d q x h) e
-                ∙ ap (λ (s : State). happened (happeningOf s) done s) (begins k h job time′));
+              (settled .run (begunNow d q x h) e
+              ∙ ap (λ (s : State). happened (happeningOf s) done s) (begins k h job time′));
         }
 
     pub room-begun : Room d → Room b

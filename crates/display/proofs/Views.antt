@@ -18,6 +18,6 @@ module _ (k : ℕ) (h : Beside) (d : Display) where
   ended-lands q x e = simp (e, take-set)
 
   pub nearer-lands : (left q x : ℕ) → (left ≡ 0 → ⊥) → d .loading ≡ Under left q x
-    → view k h (holding d (d .slots) (Under (left - 1) q x)) ≡ land (view k h d)
+      → view k h (holding d (d .slots) (Under (left - 1) q x)) ≡ land (view k h d)
   nearer-lands zero q x f e = absurd (f refl)
   nearer-lands (suc left) q x f e = let one-less : suc left - 1 ≡ left = omega arith in simp (e, one-less)

@@ -58,9 +58,9 @@ pub record Settled (k : ℕ) (d : Display) (asked : Begun) (symbol : ℕ) (done 
   pub keeps : kept (r .outcome) d (r .display)
   pub counts : counted 0 (r .outcome) d (r .display)
   pub run : (h : Beside)
-    → getD (h .rest) 0 0 ≡ symbol
-    → leads k (λ tick. besideMade d (tick .happening) h) (r .outcome) (r .display)
-    ≡ happened (happeningOf (view k h d)) done (view k h d)
+      → getD (h .rest) 0 0 ≡ symbol
+      → leads k (λ tick. besideMade d (tick .happening) h) (r .outcome) (r .display)
+      ≡ happened (happeningOf (view k h d)) done (view k h d)
 
 -- Steps 2 and 3 from d, for every job of so many slots and this load time.
 pub record Advanced (k time : ℕ) (d : Display) (asked : Begun) (symbol : ℕ) (done : Bool) (r : Ticked) : Type 0 where
@@ -68,8 +68,8 @@ pub record Advanced (k time : ℕ) (d : Display) (asked : Begun) (symbol : ℕ) 
   pub keeps : kept (r .outcome) d (r .display)
   pub counts : counted 1 (r .outcome) d (r .display)
   pub run : (h : Beside) (job : Job)
-    → getD (h .rest) 0 0 ≡ symbol
-    → job .slots ≡ k
-    → job .time ≡ time
-    → leads k (λ tick. onward d tick h) (r .outcome) (r .display)
-    ≡ then (beginning job asked (view k h d)) (λ b. happened (recordOf asked b .happening) done b)
+      → getD (h .rest) 0 0 ≡ symbol
+      → job .slots ≡ k
+      → job .time ≡ time
+      → leads k (λ tick. onward d tick h) (r .outcome) (r .display)
+      ≡ then (beginning job asked (view k h d)) (λ b. happened (recordOf asked b .happening) done b)

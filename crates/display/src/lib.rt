@@ -4,5 +4,9 @@ mod state;
 mod tick;
 
 pub use search::find;
-pub use state::{land, start, Display};
-pub use tick::{advance, Outcome, Ticked};
+pub use state::Display;
+pub use state::land;
+pub use state::start;
+pub use tick::Outcome;
+pub use tick::Ticked;
+pub use tick::advance;

@@ -86,7 +86,14 @@ pub fn land(d: Display) -> Display
             if left == 0 {
                 hold(d, slot, symbol, Loading::Idle)
             } else {
-                nearer(d, Loading::Under { left: left - 1, slot, symbol })
+                nearer(
+                    d,
+                    Loading::Under {
+                        left: left - 1,
+                        slot,
+                        symbol,
+                    },
+                )
             }
         }
     }

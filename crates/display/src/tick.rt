@@ -1,7 +1,15 @@
 // One tick of the display once a load that ends in it is in its slot: what begins, and the draw or the wait.
 use crate::search::find;
-use crate::state::{begin, draw, wait, Display, FREE};
-use rules::{Begun, Cause, Happening, Loading, TickRecord};
+use crate::state::Display;
+use crate::state::FREE;
+use crate::state::begin;
+use crate::state::draw;
+use crate::state::wait;
+use rules::Begun;
+use rules::Cause;
+use rules::Happening;
+use rules::Loading;
+use rules::TickRecord;
 ghost use mathlib.Core.Path.{_≡_};
 ghost use Prim.Native.Nat.{ℕ, _≤_, _<_};
 ghost use lib.ListN.{length, take};
@@ -36,7 +44,11 @@ fn is_idle(loading: Loading) -> bool
 {
     match loading {
         Loading::Idle => true,
-        Loading::Under { left: _, slot: _, symbol: _ } => false,
+        Loading::Under {
+            left: _,
+            slot: _,
+            symbol: _,
+        } => false,
     }
 }
 
@@ -67,7 +79,11 @@ fn cause_of(loading: Loading, symbol: u16) -> Cause
 {
     match loading {
         Loading::Idle => Cause::Nothing,
-        Loading::Under { left: _, slot: _, symbol: loaded } => {
+        Loading::Under {
+            left: _,
+            slot: _,
+            symbol: loaded,
+        } => {
             if symbol == loaded {
                 Cause::Awaited
             } else {
@@ -123,13 +139,19 @@ fn settle(d: Display, k: u8, asked: Begun, symbol: u16, done: bool) -> Ticked
     let happening = happening_of(d, k, symbol);
     if is_stuck(happening, done) {
         return Ticked {
-            outcome: Outcome::Refused { number: 13, detail: d.next as u32 },
+            outcome: Outcome::Refused {
+                number: 13,
+                detail: d.next as u32,
+            },
             display: d,
         };
     }
     let display = move_on(d, happening);
     Ticked {
-        outcome: Outcome::Went(TickRecord { begun: asked, happening }),
+        outcome: Outcome::Went(TickRecord {
+            begun: asked,
+            happening,
+        }),
         display,
     }
 }
@@ -142,11 +164,17 @@ pub fn advance(d: Display, k: u8, time: u16, asked: Begun, symbol: u16, done: bo
 {
     match asked {
         Begun::NoLoad => settle(d, k, asked, symbol, done),
-        Begun::Load { slot, symbol: loaded } => {
+        Begun::Load {
+            slot,
+            symbol: loaded,
+        } => {
             let number = load_number(d, k, slot, loaded);
             if number != 0 {
                 return Ticked {
-                    outcome: Outcome::Refused { number, detail: d.loads },
+                    outcome: Outcome::Refused {
+                        number,
+                        detail: d.loads,
+                    },
                     display: d,
                 };
             }

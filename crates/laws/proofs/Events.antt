@@ -31,14 +31,14 @@ event-at-place (suc m) b (suc i) d h =
 -- What reading an event at its place in a list says: which event comes behind those before it.
 module _ (m i : ℕ) (list : List ℕ) (within : i < m) where
   pub event-read : (t q x : ℕ) → readEvent (drop (event-at i) list) ≡ reading.Event t q x
-    → drop i (eventsIn m (drop head-size list)) ≡ event t q x ∷ drop (i + 1) (eventsIn m (drop head-size list))
+      → drop i (eventsIn m (drop head-size list)) ≡ event t q x ∷ drop (i + 1) (eventsIn m (drop head-size list))
   event-read t q x e =
       let none : Event = event 0 0 0 in
       let size : length (eventsIn m (drop 7 list)) ≡ m = length-eventsIn m (drop 7 list) in
       let same : eventIn (drop (event-at i) list) ≡ event t q x =
-          by-test (ltb (length (drop (event-at i) list)) event-size)
-          (λ short. let z : _≡_ {A = ℕ} 0 1 = let g : reading.Short ≡ reading.Event t q x = rw short at e in cc in absurd (omega arith))
-          (λ long. let g : reading.Event _ _ _ ≡ reading.Event t q x = rw long at e in cc) in
+      by-test (ltb (length (drop (event-at i) list)) event-size)
+      (λ short. let z : _≡_ {A = ℕ} 0 1 = let g : reading.Short ≡ reading.Event t q x = rw short at e in cc in absurd (omega arith))
+      (λ long. let g : reading.Event _ _ _ ≡ reading.Event t q x = rw long at e in cc) in
       drop-cons (eventsIn m (drop 7 list)) i none (omega arith)
       ∙ rw (event-at-place m (drop 7 list) i none within, drop-drop (7 * i) 7 list, same, add-one)
 

@@ -1,41 +1,32 @@
+-- `note` meets its contract: a draw is a store in each buffer.
 use borrow.Author.Needs.{needs}
 use Rattle.checker.proofs.run.note.Statement.{statement}
 use Rattle.checker.proofs.run.note.Tie as tie
-use Rattle.checker.proofs.run.note.Reads as reads
-use Rattle.checker.proofs.run.note.Lts as lts
 
--- src/run.rt:78:27
 enum-known-happening : tie.Need-enum-known-happening
 enum-known-happening c = search needs
 
--- src/run.rt:80:13
 mul-ticks : tie.Need-mul-ticks
 mul-ticks c = search needs
 
--- src/run.rt:80:13
 slice-write-ticks : tie.Need-slice-write-ticks
 slice-write-ticks c = search needs
 
--- src/run.rt:81:13
 slice-write-slots : tie.Need-slice-write-slots
 slice-write-slots c = search needs
 
 enum-told : tie.Need-enum-told
 enum-told c = search needs
 
--- src/run.rt:72:1
 same-length : tie.Need-same-length
 same-length c = search needs
 
--- src/run.rt:72:1
 same-length-2 : tie.Need-same-length-2
 same-length-2 c = search needs
 
--- src/run.rt:72:1
 returns : tie.Need-returns
-returns c = ?
+returns c = (simp (c .before .happening .given .1), simp (c .before .happening .given .1))
 
--- src/run.rt:72:1
 returns-2 : tie.Need-returns-2
 returns-2 c = search needs
 

@@ -1,123 +1,161 @@
+-- `run_list` meets its contract: what the loop keeps is `Walking`, and each way out has its answer.
+use Prim.Native.Nat.{_<_}
+use native.Mathlib.Omega.{arith}
+use mathlib.Core.Path.{_≡_, refl, sym, ap, _∙_}
+use lib.ListN.{length, drop}
+use borrow.Author.Needs.{needs}
+use Rattle.rules.specs.Job.{drawsOf, jobOf}
+use Rattle.rules.specs.LoadList.{eventsIn, head-size}
+use Rattle.rules.specs.declared.Shape.{Shape}
+use Rattle.laws.proofs.Events.{length-eventsIn}
+use Rattle.laws.proofs.Symbols.{length-symbols}
+use Rattle.display.specs.View.{onward, Beside}
+use Rattle.checker.proofs.Ends.{shown-out, shown-up, shown-refused, walking-room, first, walking-first}
+use Rattle.checker.proofs.Walks.{Walking, walked-on, noted-length}
 use Rattle.checker.proofs.run.run_list.Statement.{statement}
 use Rattle.checker.proofs.run.run_list.Tie as tie
-use Rattle.checker.proofs.run.run_list.Reads as reads
-use Rattle.checker.proofs.run.run_list.Lts as lts
-use Rattle.checker.proofs.run.finish.Reads as finish-reads
-use Rattle.checker.proofs.run.follow_tick.Reads as follow-tick-reads
-use Rattle.checker.proofs.run.note.Reads as note-reads
-use Rattle.checker.proofs.run.refusal.Reads as refusal-reads
-use Rattle.display.proofs.start.Reads as start-reads
-use Rattle.sheet.proofs.starting_slots.Reads as starting-slots-reads
 
 abbrev Inv-loop : tie.InvT-loop
-Inv-loop job list shape count ticks₀ slots₀ d₀ left₀ ticks slots d left = ?
+Inv-loop job list shape count ticks₀ slots₀ d₀ left₀ ticks slots d left =
+    (length ticks ≡ length ticks₀)
+    × (length slots ≡ length slots₀)
+    × (h : Beside)
+    × Walking (jobOf job) (eventsIn count (drop head-size list)) d left ticks slots h
 
 abbrev μ-loop : tie.MeasureT-loop
-μ-loop job list shape count ticks₀ slots₀ d₀ left₀ ticks slots d left = ?
+μ-loop job list shape count ticks₀ slots₀ d₀ left₀ ticks slots d left = left
 
--- src/run.rt:133:23
 starting-slots-requires : tie.Need-starting-slots-requires Inv-loop μ-loop
-starting-slots-requires c κs = ?
+starting-slots-requires c κs = search needs
 
--- src/run.rt:133:9
 start-requires : tie.Need-start-requires Inv-loop μ-loop
-start-requires c κs = ?
+start-requires c κs = search needs
 
--- src/run.rt:134:35
 cast-left : tie.Need-cast-left Inv-loop μ-loop
-cast-left c = ?
+cast-left c = search needs
 
--- src/run.rt:134:25
 add-left : tie.Need-add-left Inv-loop μ-loop
-add-left c = ?
+add-left c = search needs
 
--- src/run.rt:134:55
 cast-left-2 : tie.Need-cast-left-2 Inv-loop μ-loop
-cast-left-2 c = ?
+cast-left-2 c = search needs
 
--- src/run.rt:134:25
 add-left-2 : tie.Need-add-left-2 Inv-loop μ-loop
-add-left-2 c = ?
+add-left-2 c = search needs
 
--- src/run.rt:135:5
 loop-holds : tie.Need-loop-holds Inv-loop μ-loop
-loop-holds c = ?
+loop-holds c =
+    let a = c .before .before .before .before .before .before .before .before .args in (
+      refl,
+      refl,
+      first (drawsOf (a .job .now)),
+      walking-first (a .job .now) (a .shape) (eventsIn (a .count) (drop head-size (a .list .now))) (c .before .before .start .result) (c .before .before .before .starting-slots .result) (a .ticks .now) (a .slots .now) _
+          (c .before .before .before .before .before .before .before .before .pre .shaped) (c .before .before .before .before .before .before .before .before .pre .few-slots) (c .before .before .start .ensures) (c .before .before .before .starting-slots .ensures) refl,
+    )
 
--- src/run.rt:139:13
 finish-requires : tie.Need-finish-requires Inv-loop μ-loop
-finish-requires c κs = ?
+finish-requires c κs = search needs
 
--- src/run.rt:139:13
 same-length : tie.Need-same-length Inv-loop μ-loop
-same-length c = ?
+same-length c = c .before .before .before .loop .inv .0
 
--- src/run.rt:139:13
 same-length-2 : tie.Need-same-length-2 Inv-loop μ-loop
-same-length-2 c = ?
+same-length-2 c = c .before .before .before .loop .inv .1
 
--- src/run.rt:139:13
 returns : tie.Need-returns Inv-loop μ-loop
-returns c = ?
+returns c =
+    let a = c .before .before .before .before .before .before .before .before .before .before .before .before .args in
+    let l = c .before .before .before .loop in
+    let draws′ : length (jobOf (a .job .now) .draws) ≡ a .shape .draws =
+    length-symbols _ _ ∙ sym (ap (λ (s : Shape). s .draws) (c .before .before .before .before .before .before .before .before .before .before .before .before .pre .shaped)) in
+    shown-out (jobOf (a .job .now)) (eventsIn (a .count) (drop head-size (a .list .now))) (l .d) (l .left) (l .ticks) (l .slots) (l .inv .2) (l .inv .3) (a .count) (c .finish .result) (omega arith) (length-eventsIn _ _) (c .finish .ensures)
 
--- src/run.rt:142:13
 finish-requires-2 : tie.Need-finish-requires-2 Inv-loop μ-loop
-finish-requires-2 c κs = ?
+finish-requires-2 c κs = search needs
 
--- src/run.rt:142:13
 same-length-3 : tie.Need-same-length-3 Inv-loop μ-loop
-same-length-3 c = ?
+same-length-3 c = c .before .before .before .before .loop .inv .0
 
--- src/run.rt:142:13
 same-length-4 : tie.Need-same-length-4 Inv-loop μ-loop
-same-length-4 c = ?
+same-length-4 c = c .before .before .before .before .loop .inv .1
 
--- src/run.rt:142:13
 returns-2 : tie.Need-returns-2 Inv-loop μ-loop
-returns-2 c = ?
+returns-2 c =
+    let a = c .before .before .before .before .before .before .before .before .before .before .before .before .before .args in
+    let l = c .before .before .before .before .loop in
+    shown-up (jobOf (a .job .now)) (eventsIn (a .count) (drop head-size (a .list .now))) (l .d) (l .left) (l .ticks) (l .slots) (l .inv .2) (l .inv .3) (a .count) (c .finish2 .result) (c .before .if2 .taken) (length-eventsIn _ _) (c .finish2 .ensures)
 
--- src/run.rt:144:13
 follow-tick-requires : tie.Need-follow-tick-requires Inv-loop μ-loop
-follow-tick-requires c κs = ?
+follow-tick-requires c κs =
+    let a = c .before .before .before .before .before .before .before .before .before .before .before .before .args in
+    let l = c .before .before .before .loop in
+    let pre = c .before .before .before .before .before .before .before .before .before .before .before .before .pre in
+    let draws′ : length (jobOf (a .job .now) .draws) ≡ a .shape .draws =
+    length-symbols _ _ ∙ sym (ap (λ (s : Shape). s .draws) (c .before .before .before .before .before .before .before .before .before .before .before .before .pre .shaped)) in
+    let time′ : (jobOf (a .job .now)) .time ≡ a .shape .time = sym (ap (λ (s : Shape). s .time) (pre .shaped)) in
+    let short : a .shape .time < 65536 = search needs in
+    let roomy = walking-room (jobOf (a .job .now)) (eventsIn (a .count) (drop head-size (a .list .now))) (l .d) (l .left) (l .ticks) (l .slots) (l .inv .2) (l .inv .3) (omega arith) (omega (arith, pre .few-draws)) (c .if2 .left) in
+    (pre .shaped, pre .few-slots, pre .sized, roomy .0, roomy .1, c .before .if1 .left)
 
--- src/run.rt:147:32
 enum-known-outcome : tie.Need-enum-known-outcome Inv-loop μ-loop
-enum-known-outcome c = ?
+enum-known-outcome c = search needs
 
--- src/run.rt:149:29
 refusal-requires : tie.Need-refusal-requires Inv-loop μ-loop
-refusal-requires c κs = ?
+refusal-requires c κs = search needs
 
--- src/run.rt:148:17
 same-length-5 : tie.Need-same-length-5 Inv-loop μ-loop
-same-length-5 c = ?
+same-length-5 c = c .before .before .before .before .before .before .before .before .loop .inv .0
 
--- src/run.rt:148:17
 same-length-6 : tie.Need-same-length-6 Inv-loop μ-loop
-same-length-6 c = ?
+same-length-6 c = c .before .before .before .before .before .before .before .before .loop .inv .1
 
--- src/run.rt:148:17
 returns-3 : tie.Need-returns-3 Inv-loop μ-loop
-returns-3 c = ?
+returns-3 c =
+    let a = c .before .before .before .before .before .before .before .before .before .before .before .before .before .before .before .before .before .args in
+    let l = c .before .before .before .before .before .before .before .before .loop in
+    let ends = c .before .before .outcome .given in
+    let draws′ : length (jobOf (a .job .now) .draws) ≡ a .shape .draws =
+    length-symbols _ _ ∙ sym (ap (λ (s : Shape). s .draws) (c .before .before .before .before .before .before .before .before .before .before .before .before .before .before .before .before .before .pre .shaped)) in
+    shown-refused (jobOf (a .job .now)) (eventsIn (a .count) (drop head-size (a .list .now))) (l .d) (l .left) (l .ticks) (l .slots) (l .inv .2) (l .inv .3) (omega arith) (c .before .before .before .before .before .if2 .left) (c .before .before .before .before .follow-tick .result) (c .refusal .result) (ends .0 .0) (ends .0 .1 .0)
+    (c .before .before .before .before .follow-tick .ensures) (ends .1) (c .refusal .ensures)
 
--- src/run.rt:153:27
 enum-known-outcome-2 : tie.Need-enum-known-outcome-2 Inv-loop μ-loop
-enum-known-outcome-2 c = ?
+enum-known-outcome-2 c = search needs
 
--- src/run.rt:155:17
 note-requires : tie.Need-note-requires Inv-loop μ-loop
-note-requires c κs = ?
+note-requires c κs =
+    let a = c .before .before .before .before .before .before .before .before .before .before .before .before .before .before .before .before .before .before .args in
+    let l = c .before .before .before .before .before .before .before .before .before .loop in
+    let pre = c .before .before .before .before .before .before .before .before .before .before .before .before .before .before .before .before .before .before .pre in
+    let few : l .d .next < a .shape .draws = c .before .before .before .before .before .before .before .if1 .left in
+    let ticks′ : length (l .ticks) ≡ length (a .ticks .now) = l .inv .0 in
+    let slots′ : length (l .slots) ≡ length (a .slots .now) = l .inv .1 in
+    (omega (arith, pre), omega (arith, pre))
 
--- src/run.rt:158:17
 sub-left : tie.Need-sub-left Inv-loop μ-loop
-sub-left c = ?
+sub-left c = omega arith
 
--- src/run.rt:135:5
 loop-less : tie.Need-loop-less Inv-loop μ-loop
-loop-less c = ?
+loop-less c = omega arith
 
--- src/run.rt:135:5
 loop-again : tie.Need-loop-again Inv-loop μ-loop
-loop-again c = ?
+loop-again c =
+    let a = c .before .before .before .before .before .before .before .before .before .before .before .before .before .before .before .before .before .before .before .before .before .before .before .before .args in
+    let l = c .before .before .before .before .before .before .before .before .before .before .before .before .before .before .before .loop in
+    let pre = c .before .before .before .before .before .before .before .before .before .before .before .before .before .before .before .before .before .before .before .before .before .before .before .before .pre in
+    let went = c .before .before .before .before .before .before .before .before .before .outcome2 .given in
+    let few : l .d .next < a .shape .draws = c .before .before .before .before .before .before .before .before .before .before .before .before .before .if1 .left in
+    let ticks′ : length (l .ticks) ≡ length (a .ticks .now) = l .inv .0 in
+    let slots′ : length (l .slots) ≡ length (a .slots .now) = l .inv .1 in
+    let draws′ : length (jobOf (a .job .now) .draws) ≡ a .shape .draws =
+    length-symbols _ _ ∙ sym (ap (λ (s : Shape). s .draws) (c .before .before .before .before .before .before .before .before .before .before .before .before .before .before .before .before .before .before .before .before .before .before .before .before .pre .shaped)) in (
+      ap length (c .before .before .before .before .before .note .ensures .0) ∙ noted-length (went .0 .0 .happening) (λ q. l .d .tick) (l .d .next) (l .ticks) ∙ ticks′,
+      ap length (c .before .before .before .before .before .note .ensures .1) ∙ noted-length (went .0 .0 .happening) (λ q. q) (l .d .next) (l .slots) ∙ slots′,
+      onward (l .d) (went .0 .0) (l .inv .2),
+      walked-on (jobOf (a .job .now)) (eventsIn (a .count) (drop head-size (a .list .now))) (l .d) (l .left) (l .ticks) (l .slots) (l .inv .2) (l .inv .3) (omega arith) (c .before .before .before .before .before .before .before .before .before .before .before .before .if2 .left) (c .before .before .before .before .before .before .before .before .before .before .before .follow-tick .result) (c .before .before .before .before .before .before .before .before .before .before .before .follow-tick .ensures) (went .0 .0)
+          (c .before .before .before .before .before .note .last .0) (c .before .before .before .before .before .note .last .1 .0) (went .1) (omega (arith, pre)) (omega (arith, pre))
+          (c .before .before .before .before .before .note .ensures .0) (c .before .before .before .before .before .note .ensures .1),
+    )
 
 pub run-list-spec : {M : Type 1} → statement M
 run-list-spec =

@@ -1,42 +1,34 @@
-use Rattle.rules.specs.LoadList.{readEvent}
-use native.Mathlib.Omega.{arith}
-use lib.Seq.{take-all}
-use lib.ListN.{length, drop, length-drop, drop-of-length-le}
+-- `event_in` meets its contract: the part of a list from a place to its end, and none past the end.
 use Prim.Native.Nat.{_-_}
+use native.Mathlib.Omega.{arith}
 use mathlib.Core.Path.{sym, ap, _∙_}
+use lib.ListN.{length, drop, length-drop, drop-of-length-le}
+use lib.Seq.{take-all}
 use borrow.Author.Needs.{needs}
+use Rattle.rules.specs.LoadList.{readEvent}
 use Rattle.checker.proofs.walk.event_in.Statement.{statement}
 use Rattle.checker.proofs.walk.event_in.Tie as tie
-use Rattle.checker.proofs.walk.event_in.Reads as reads
-use Rattle.checker.proofs.walk.event_in.Lts as lts
-use Rattle.sheet.proofs.read_event.Reads as read-event-reads
 
--- src/walk.rt:12:27
 sub-read-event : tie.Need-sub-read-event
 sub-read-event c = search needs
 
--- src/walk.rt:12:27
 part-read-event-start : tie.Need-part-read-event-start
 part-read-event-start c = search needs
 
--- src/walk.rt:12:27
 part-read-event-end : tie.Need-part-read-event-end
 part-read-event-end c = search needs
 
--- src/walk.rt:12:9
 read-event-requires : tie.Need-read-event-requires
 read-event-requires c κs = search needs
 
--- src/walk.rt:8:1
 returns : tie.Need-returns
-returns c = 
+returns c =
     let a = c .before .before .before .before .args in
     c .read-event .ensures
     ∙ ap readEvent (take-all (length (a .list .now) - a .at) (drop (a .at) (a .list .now)) (simp length-drop (omega arith)))
 
--- src/walk.rt:8:1
 returns-2 : tie.Need-returns-2
-returns-2 c = 
+returns-2 c =
     let a = c .before .before .args in
     sym (ap readEvent (drop-of-length-le (a .list .now) (c .if1 .left)))
 

@@ -1,14 +1,13 @@
-use Rattle.laws.proofs.Places.{place-here, place-further, place-past}
-use Rattle.rules.specs.Basics.{place}
-use lib.ListN.{length, drop}
-use mathlib.Core.Path.{_≡_}
+-- `find` meets its contract: at each turn the place in what is left, counted from the whole row's start, is the place in the whole row.
 use Prim.Native.Nat.{suc, _+_, _-_, _≤_}
 use native.Mathlib.Omega.{arith}
+use mathlib.Core.Path.{_≡_}
+use lib.ListN.{length, drop}
 use borrow.Author.Needs.{needs}
+use Rattle.rules.specs.Basics.{place}
+use Rattle.laws.proofs.Places.{place-here, place-further, place-past}
 use Rattle.display.proofs.search.find.Statement.{statement}
 use Rattle.display.proofs.search.find.Tie as tie
-use Rattle.display.proofs.search.find.Reads as reads
-use Rattle.display.proofs.search.find.Lts as lts
 
 abbrev Inv-loop : tie.InvT-loop
 Inv-loop slots symbol slot₀ slot = (slot ≤ length slots) × (place symbol slots ≡ slot + place symbol (drop slot slots))
@@ -16,51 +15,43 @@ Inv-loop slots symbol slot₀ slot = (slot ≤ length slots) × (place symbol sl
 abbrev μ-loop : tie.MeasureT-loop
 μ-loop slots symbol slot₀ slot = length slots - slot
 
--- src/search.rt:10:5
 loop-holds : tie.Need-loop-holds Inv-loop μ-loop
 loop-holds c = (omega arith, omega arith)
 
--- src/search.rt:11:12
 mul-if1 : tie.Need-mul-if1 Inv-loop μ-loop
 mul-if1 c = search needs
 
--- src/search.rt:11:12
 shared-slice-read-if1 : tie.Need-shared-slice-read-if1 Inv-loop μ-loop
 shared-slice-read-if1 c = omega arith
 
--- src/search.rt:12:13
 returns : tie.Need-returns Inv-loop μ-loop
-returns c = 
+returns c =
     let a = c .before .before .before .before .args in
     let l = c .before .before .before .loop in
     let here : place (a .symbol) (drop (l .slot) (a .slots .now)) ≡ 0 =
-        place-here (a .symbol) (a .slots .now) (l .slot) (c .before .before .loop-test .taken) (c .if1 .taken) in
+    place-here (a .symbol) (a .slots .now) (l .slot) (c .before .before .loop-test .taken) (c .if1 .taken) in
     omega arith
 
--- src/search.rt:14:9
 add-slot : tie.Need-add-slot Inv-loop μ-loop
 add-slot c = omega arith
 
--- src/search.rt:10:5
 loop-less : tie.Need-loop-less Inv-loop μ-loop
 loop-less c = omega arith
 
--- src/search.rt:10:5
 loop-again : tie.Need-loop-again Inv-loop μ-loop
-loop-again c = 
+loop-again c =
     let a = c .before .before .before .before .args in
     let l = c .before .before .before .loop in
     let further : place (a .symbol) (drop (l .slot) (a .slots .now)) ≡ suc (place (a .symbol) (drop (l .slot + 1) (a .slots .now))) =
-        place-further (a .symbol) (a .slots .now) (l .slot) (c .before .before .loop-test .taken) (c .if1 .left) in
+    place-further (a .symbol) (a .slots .now) (l .slot) (c .before .before .loop-test .taken) (c .if1 .left) in
     (omega arith, omega arith)
 
--- src/search.rt:6:1
 returns-2 : tie.Need-returns-2 Inv-loop μ-loop
-returns-2 c = 
+returns-2 c =
     let a = c .before .before .args in
     let l = c .before .loop in
     let past : place (a .symbol) (drop (l .slot) (a .slots .now)) ≡ 0 =
-        place-past (a .symbol) (a .slots .now) (l .slot) (c .loop-test .left) in
+    place-past (a .symbol) (a .slots .now) (l .slot) (c .loop-test .left) in
     omega arith
 
 pub find-spec : {M : Type 1} → statement M

@@ -1,57 +1,46 @@
-use Rattle.display.proofs.Views.{idle-lands, ended-lands, nearer-lands}
-use Rattle.display.specs.View.{view}
-use Rattle.rules.specs.declared.Loading.the-variants.{Under}
-use mathlib.Core.Path.{ap, _∙_}
+-- `land` meets its contract: each state of the loader lands as the rules say.
 use Prim.Native.Nat.{ℕ}
+use mathlib.Core.Path.{ap, _∙_}
 use borrow.Author.Needs.{needs}
+use Rattle.rules.specs.declared.Loading.the-variants.{Under}
+use Rattle.display.specs.View.{view}
+use Rattle.display.proofs.Views.{idle-lands, ended-lands, nearer-lands}
 use Rattle.display.proofs.state.land.Statement.{statement}
 use Rattle.display.proofs.state.land.Tie as tie
-use Rattle.display.proofs.state.land.Reads as reads
-use Rattle.display.proofs.state.land.Lts as lts
-use Rattle.display.proofs.state.hold.Reads as hold-reads
-use Rattle.display.proofs.state.nearer.Reads as nearer-reads
 
--- src/state.rt:84:26
 enum-told : tie.Need-enum-told
 enum-told c = search needs
 
--- src/state.rt:85:26
 enum-known-loading : tie.Need-enum-known-loading
 enum-known-loading c = search needs
 
--- src/state.rt:87:17
 hold-requires : tie.Need-hold-requires
 hold-requires c κs = search needs
 
--- src/state.rt:89:50
 sub-t10 : tie.Need-sub-t10
 sub-t10 c = search needs
 
--- src/state.rt:89:17
 nearer-requires : tie.Need-nearer-requires
 nearer-requires c κs = search needs
 
--- src/state.rt:79:1
 returns : tie.Need-returns
 returns c = λ k h. idle-lands k h (c .before .before .args .d) (c .enum-told .given .1)
 
--- src/state.rt:79:1
 returns-2 : tie.Need-returns-2
-returns-2 c = 
+returns-2 c =
     λ k h.
     let load = c .before .before .before .loading .given in
     ap (view k h) (c .hold .ensures)
     ∙ ended-lands k h (c .before .before .before .before .before .args .d) (load .0 .1 .0) (load .0 .1 .1 .0)
-      (load .1 ∙ ap (λ (left : ℕ). Under left (load .0 .1 .0) (load .0 .1 .1 .0)) (c .before .if1 .taken))
+    (load .1 ∙ ap (λ (left : ℕ). Under left (load .0 .1 .0) (load .0 .1 .1 .0)) (c .before .if1 .taken))
 
--- src/state.rt:79:1
 returns-3 : tie.Need-returns-3
-returns-3 c = 
+returns-3 c =
     λ k h.
     let load = c .before .before .before .loading .given in
     ap (view k h) (c .nearer .ensures)
     ∙ nearer-lands k h (c .before .before .before .before .before .args .d) (load .0 .0) (load .0 .1 .0) (load .0 .1 .1 .0)
-      (c .before .if1 .left) (load .1)
+    (c .before .if1 .left) (load .1)
 
 pub land-spec : {M : Type 1} → statement M
 land-spec =

@@ -1,28 +1,23 @@
+-- `put` meets its contract: a slot past the sixty-fourth is none, and a store there is no store.
 use native.Mathlib.Omega.{arith}
 use mathlib.Core.Path.{_≡_, sym}
-use lib.Seq.{set-out}
 use lib.ListN.{length}
+use lib.Seq.{set-out}
 use borrow.Author.Needs.{needs}
 use Rattle.display.proofs.state.put.Statement.{statement}
 use Rattle.display.proofs.state.put.Tie as tie
-use Rattle.display.proofs.state.put.Reads as reads
-use Rattle.display.proofs.state.put.Lts as lts
 
--- src/state.rt:43:9
 mul-next : tie.Need-mul-next
 mul-next c = search needs
 
--- src/state.rt:43:9
 array-write-next : tie.Need-array-write-next
 array-write-next c = search needs
 
--- src/state.rt:44:9
 returns : tie.Need-returns
 returns c = search needs
 
--- src/state.rt:37:1
 returns-2 : tie.Need-returns-2
-returns-2 c = 
+returns-2 c =
     let whole : length (c .before .args .slots) ≡ 64 = search needs in
     sym (set-out (c .before .args .slots) (c .before .args .slot) (c .before .args .content) (omega arith))
 

@@ -1,61 +1,49 @@
-use Rattle.rules.specs.declared.Begun.the-variants.{Load}
+-- `advance` meets its contract: nothing is asked for, or a load that is refused, or one that begins.
 use mathlib.Core.Path.{refl}
-use Rattle.display.proofs.Ticks.{advanced-none, advanced-refused, advanced-load, room-begun}
 use borrow.Author.Needs.{needs}
+use Rattle.rules.specs.declared.Begun.the-variants.{Load}
+use Rattle.display.proofs.Ticks.{advanced-none, advanced-refused, advanced-load, room-begun}
 use Rattle.display.proofs.tick.advance.Statement.{statement}
 use Rattle.display.proofs.tick.advance.Tie as tie
-use Rattle.display.proofs.tick.advance.Reads as reads
-use Rattle.display.proofs.tick.advance.Lts as lts
-use Rattle.display.proofs.state.begin.Reads as begin-reads
-use Rattle.display.proofs.tick.load_number.Reads as load-number-reads
-use Rattle.display.proofs.tick.settle.Reads as settle-reads
 
--- src/tick.rt:144:26
 enum-told : tie.Need-enum-told
 enum-told c = search needs
 
--- src/tick.rt:144:26
 settle-requires : tie.Need-settle-requires
 settle-requires c κs = search needs
 
--- src/tick.rt:145:23
 enum-known-asked : tie.Need-enum-known-asked
 enum-known-asked c = search needs
 
--- src/tick.rt:146:17
 load-number-requires : tie.Need-load-number-requires
 load-number-requires c κs = search needs
 
--- src/tick.rt:148:17
 returns : tie.Need-returns
-returns c = 
+returns c =
     let a = c .before .before .before .before .before .args in
     let load = c .before .before .before .asked .given in
     advanced-refused (a .k) (a .time) (a .d) (a .symbol) (a .done) (a .asked) (load .0 .0) (load .0 .1 .0)
     (c .before .load-number .result) (load .1) (c .before .load-number .ensures) (c .if1 .taken)
 
--- src/tick.rt:153:20
 begin-requires : tie.Need-begin-requires
 begin-requires c κs = search needs
 
--- src/tick.rt:153:13
 settle-requires-2 : tie.Need-settle-requires-2
-settle-requires-2 c κs = 
+settle-requires-2 c κs =
     let a = c .before .before .before .before .before .before .args in
-    let load = c .before .before .before .before .asked .given in
-    ( c .before .before .before .before .before .before .pre .0
-    , room-begun (a .k) (a .time) (a .d) (a .symbol) (a .done) (load .0 .0) (load .0 .1 .0) (c .begin .result) (c .begin .ensures)
-      (c .before .before .before .before .before .before .pre .1))
+    let load = c .before .before .before .before .asked .given in (
+      c .before .before .before .before .before .before .pre .0,
+      room-begun (a .k) (a .time) (a .d) (a .symbol) (a .done) (load .0 .0) (load .0 .1 .0) (c .begin .result) (c .begin .ensures)
+          (c .before .before .before .before .before .before .pre .1),
+    )
 
--- src/tick.rt:139:1
 returns-2 : tie.Need-returns-2
-returns-2 c = 
+returns-2 c =
     let a = c .before .before .before .args in
     advanced-none (a .k) (a .time) (a .d) (a .symbol) (a .done) (a .asked) (c .settle .result) (c .before .enum-told .given .1) (c .settle .ensures)
 
--- src/tick.rt:139:1
 returns-3 : tie.Need-returns-3
-returns-3 c = 
+returns-3 c =
     let a = c .before .before .before .before .before .before .before .args in
     let load = c .before .before .before .before .before .asked .given in
     rw (load .1)

@@ -1,27 +1,21 @@
-use borrow.Author.Tests.{eq-eqb, ne-eqb}
+-- `cause_of` meets its contract: the two symbols are compared where a load is under way.
 use borrow.Author.Needs.{needs}
+use borrow.Author.Tests.{eq-eqb, ne-eqb}
 use Rattle.display.proofs.tick.cause_of.Statement.{statement}
 use Rattle.display.proofs.tick.cause_of.Tie as tie
-use Rattle.display.proofs.tick.cause_of.Reads as reads
-use Rattle.display.proofs.tick.cause_of.Lts as lts
 
--- src/tick.rt:70:26
 enum-told : tie.Need-enum-told
 enum-told c = search needs
 
--- src/tick.rt:71:52
 enum-known-loading : tie.Need-enum-known-loading
 enum-known-loading c = search needs
 
--- src/tick.rt:66:1
 returns : tie.Need-returns
 returns c = search needs
 
--- src/tick.rt:66:1
 returns-2 : tie.Need-returns-2
 returns-2 c = simp (c .before .before .loading .given .1, eq-eqb _ _ (c .if1 .taken))
 
--- src/tick.rt:66:1
 returns-3 : tie.Need-returns-3
 returns-3 c = simp (c .before .before .loading .given .1, ne-eqb _ _ (c .if1 .left))
 

@@ -1,31 +1,24 @@
-use Rattle.rules.specs.declared.Happening.the-variants.{Draw, Wait}
-use Rattle.laws.proofs.Places.{found-stands, missed-stands}
+-- `happening_of` meets its contract: a slot below k was found, or none was.
 use mathlib.Core.Path.{ap}
 use borrow.Author.Needs.{needs}
+use Rattle.rules.specs.declared.Happening.the-variants.{Draw, Wait}
+use Rattle.laws.proofs.Places.{found-stands, missed-stands}
 use Rattle.display.proofs.tick.happening_of.Statement.{statement}
 use Rattle.display.proofs.tick.happening_of.Tie as tie
-use Rattle.display.proofs.tick.happening_of.Reads as reads
-use Rattle.display.proofs.tick.happening_of.Lts as lts
-use Rattle.display.proofs.tick.cause_of.Reads as cause-of-reads
-use Rattle.display.proofs.tick.slot_of.Reads as slot-of-reads
 
--- src/tick.rt:87:9
 slot-of-requires : tie.Need-slot-of-requires
 slot-of-requires c κs = search needs
 
--- src/tick.rt:92:25
 cause-of-requires : tie.Need-cause-of-requires
 cause-of-requires c κs = search needs
 
--- src/tick.rt:82:1
 returns : tie.Need-returns
-returns c = 
+returns c =
     let found = c .before .slot-of .ensures in
     simp (found-stands _ _ _ _ (found .0) (found .1) (c .if1 .taken)) (ap Draw (found .0))
 
--- src/tick.rt:82:1
 returns-2 : tie.Need-returns-2
-returns-2 c = 
+returns-2 c =
     let found = c .before .before .slot-of .ensures in
     simp (missed-stands _ _ _ _ (found .0) (found .1) (c .before .if1 .left)) (ap Wait (c .cause-of .ensures))
 

@@ -25,7 +25,7 @@ loop-holds c = (omega arith, omega arith, sym (row-none (c .before .args .job .n
 
 -- src/job.rt:127:13
 returns : tie.Need-returns Inv-loop μ-loop
-returns c = 
+returns c =
     let a = c .before .before .before .before .args in
     let l = c .before .before .loop in
     let same : l .slot ≡ a .slots = omega arith in
@@ -57,18 +57,19 @@ loop-less c = omega arith
 
 -- src/job.rt:125:5
 loop-again : tie.Need-loop-again Inv-loop μ-loop
-loop-again c = 
+loop-again c =
     let a = c .before .before .before .before .before .args in
-    let l = c .before .before .before .loop in
-    ( omega arith
-    , omega arith
-    , ap (λ (v : ℕ). set (l .row) (l .slot) v) (c .starting-symbol .ensures)
-      ∙ ap (λ (r : List ℕ). set r (l .slot) (number16 (a .job .now) (10 + 2 * l .slot))) (l .inv .2)
-      ∙ row-more (l .slot) (a .job .now) (c .before .before .loop-test .taken))
+    let l = c .before .before .before .loop in (
+      omega arith,
+      omega arith,
+      ap (λ (v : ℕ). set (l .row) (l .slot) v) (c .starting-symbol .ensures)
+          ∙ ap (λ (r : List ℕ). set r (l .slot) (number16 (a .job .now) (10 + 2 * l .slot))) (l .inv .2)
+          ∙ row-more (l .slot) (a .job .now) (c .before .before .loop-test .taken),
+    )
 
 -- src/job.rt:120:1
 returns-2 : tie.Need-returns-2 Inv-loop μ-loop
-returns-2 c = 
+returns-2 c =
     let a = c .before .before .before .args in
     let l = c .before .loop in
     let same : l .slot ≡ 64 = omega arith in
