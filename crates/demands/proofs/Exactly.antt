@@ -35,7 +35,7 @@ use Rattle.demands.proofs.Only.{looked-alike, only-sheet}
 use Rattle.demands.proofs.Events.{as-many, tick-begun, event-due, due-left, fair}
 
 -- The load begun last, counted in the list.
-last-tick-begun : (time end q x : ℕ) (begun : List Loaded) (l : Last time end q x begun)
+pub last-tick-begun : (time end q x : ℕ) (begun : List Loaded) (l : Last time end q x begun)
     → (getD (map loadTick begun) (length (l .before)) 0 ≡ l .tick) × (length begun ≡ length (l .before) + 1)
 last-tick-begun time end q x begun l =
     let size : length (map loadTick (l .before)) ≡ length (l .before) = length-map (l .before) loadTick in (

@@ -3,3 +3,14 @@ pub mod Witness
 pub mod Events
 pub mod Only
 pub mod Exactly
+pub mod Stops
+pub mod Tables
+pub mod Words
+pub mod Refusing
+pub mod Demand1
+pub mod NoSecondAnswer
+pub mod Demand2
+pub mod Demand3
+pub mod Ended
+pub mod Sharper
+pub mod Nearest

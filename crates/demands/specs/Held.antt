@@ -5,7 +5,7 @@ use mathlib.Core.Path.{_≡_, refl}
 use mathlib.Core.Bool.{cond, _&&_}
 use mathlib.Core.List.{List, [], _∷_, map}
 use lib.ListN.{length, getD}
-use lib.Dec.{eqb, leb}
+use lib.Dec.{eqb, ltb, leb}
 use Rattle.rules.specs.declared.Answer.{Answer}
 use Rattle.rules.specs.Job.{Job, free}
 use Rattle.rules.specs.LoadList.{Event, event}
@@ -64,6 +64,11 @@ pub record Sheet (job : Job) (events : List Event) (ticks slots : List ℕ) (ans
   pub elapsed : answer .elapsed ≡ from ticks (length (job .draws))
   pub waits : answer .waits + length (job .draws) ≡ answer .elapsed
   pub loads : answer .loads ≡ length events
+
+-- How many loads of a list have ended on a sheet with so many ticks: a load begun at tick t ends in tick t + F, if the sheet has that tick.
+unfoldable pub endedBy : ℕ → ℕ → List Event → ℕ
+endedBy time elapsed [] = 0
+endedBy time elapsed (event t q x ∷ later) = cond (ltb (t + time) elapsed) 1 0 + endedBy time elapsed later
 
 -- Row e of document 01: slot 1 of job a holds symbol 2, then nothing from tick 2 on, when the load begins, and symbol 3 from tick 6 on.
 row-e : map (λ t. held (record { slots = 2; time = 4; starting = 1 ∷ 2 ∷ []; draws = 1 ∷ 2 ∷ 3 ∷ 1 ∷ [] }) (event 2 1 3 ∷ []) t 1)

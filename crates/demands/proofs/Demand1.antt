@@ -1,0 +1,111 @@
+-- Demand 1, over all bytes and lengths: a plan and a check answer in full, or with the one refusal that the table gives.
+-- To be held beside specs/Table.antt, which is the table of "Refusal numbers" of document 01.
+use Prim.Native.Nat.{ℕ, _+_, _*_, _≤_}
+use native.Mathlib.Omega.{arith}
+use mathlib.Core.Path.{_≡_, refl, sym, _∙_}
+use mathlib.Core.List.{List}
+use mathlib.Core.Logic.{_↔_}
+use lib.ListN.{length}
+use borrow.Author.Tests.{ltb-false}
+use Rattle.rules.specs.declared.JobReading.the-variants.{Taken}
+use Rattle.rules.specs.Job.{shapeOf, drawsOf, jobOf}
+use Rattle.rules.specs.LoadList.{head-size, event-size}
+use Rattle.rules.specs.Display.{State, Run, going, refused}
+use Rattle.rules.specs.Plans.{last-plan}
+use Rattle.rules.specs.Refusals.{readJob, checked, planned, answerOf, lent, ticksOf, slotsOf, tickBytes, writtenBy}
+use Rattle.plan_laws.proofs.Plans.{plan-done, planned-done}
+use Rattle.laws.proofs.Jobs.{proper}
+use Rattle.demands.specs.Table.{Gives, planRows, Given}
+use Rattle.demands.proofs.Tables.{Clear, none, passed, planTests, given-refuses, going-clear, gives-finds, finds-gives, plan-is-tests}
+use Rattle.demands.proofs.Words.{plan-words}
+use Rattle.demands.proofs.Refusing.{Answers, refusal-is, answers-so, plan-found, check-given, given-check, never-late, plan-goes, check-goes}
+
+-- ---- The table, exactly
+
+-- A plan answers a refusal's number and detail exactly when that row of the table holds and no row above it does.
+pub plan-refusals : (job : List ℕ) (plan room n d : ℕ) → (n ≡ 0 → ⊥)
+    → Answers (planned job plan room) n d ↔ Gives (planRows job plan room) n d
+plan-refusals job plan room n d some = (
+  λ a. finds-gives _ _ n d (plan-words job plan room) (plan-found job plan room n d (refusal-is (planned job plan room) n d some a)),
+  λ g.
+      answers-so (planned job plan room) n d
+      (plan-is-tests job plan room ∙ given-refuses (planTests job plan room) _ n d (gives-finds _ _ n d (plan-words job plan room) g)),
+)
+
+-- A check answers a refusal's number and detail exactly when the table gives them: 1 to 5, 8, 7 and 9 at once, 10 to 13 as time meets
+-- them, 14 at the end.
+pub check-refusals : (job list : List ℕ) (ticks slots n d : ℕ) → (n ≡ 0 → ⊥)
+    → Answers (checked job list ticks slots) n d ↔ Given job list ticks slots n d
+check-refusals job list ticks slots n d some = (
+  λ a. check-given job list ticks slots n d (refusal-is (checked job list ticks slots) n d some a),
+  λ g. answers-so (checked job list ticks slots) n d (given-check job list ticks slots n d g),
+)
+
+-- Refusal 15 is never given: every plan of a job that is taken is over long before the last tick that a list can name.
+pub plan-never-late : (job : List ℕ) (plan room : ℕ) → answerOf (planned job plan room) .number ≡ 15 → ⊥
+plan-never-late job plan room e =
+    never-late job plan room 15 (answerOf (planned job plan room) .detail)
+    (plan-found job plan room 15 _ (refusal-is (planned job plan room) 15 _ (λ z. omega arith) (e, refl))) refl
+
+-- A plan answers 0 exactly when its job is accepted, its number is one of the four and room is lent.
+pub plan-accepts : (job : List ℕ) (plan room : ℕ)
+    → (answerOf (planned job plan room) .number ≡ 0)
+    ↔ ((readJob job ≡ Taken (shapeOf job)) × (plan ≤ last-plan) × (head-size + event-size * length (drawsOf job) ≤ room))
+plan-accepts job plan room = (
+  λ e.
+      let (s, ran) = plan-goes job plan room e in
+      by-tests (going-clear (planTests job plan room) _ s (sym (plan-is-tests job plan room) ∙ ran) .0),
+  λ h.
+      let (taken, known, enough) = h in
+      let d = plan-done (jobOf job) (proper job _ taken) plan in
+      rw (planned-done job (shapeOf job) plan room taken known enough d),
+)
+  where
+    by-tests : Clear (planTests job plan room)
+        → (readJob job ≡ Taken (shapeOf job)) × (plan ≤ last-plan) × (head-size + event-size * length (drawsOf job) ≤ room)
+    by-tests (passed e₁ (passed e₂ (passed e₃ (passed e₄ (passed e₅ (passed e₆ (passed e₇ (passed e₁₅ none)))))))) =
+        (rw (e₁, e₂, e₃, e₄, e₅), ltb-false _ _ e₆, ltb-false _ _ e₇)
+
+-- ---- A full answer, or a refusal and nothing else
+
+-- What a call answers and leaves behind.
+--     accepted    number 0 comes with detail 0
+--     counts      a refusal brings no elapsed, no waits and no loads
+--     room        a refused plan leaves the room as it was
+--     ticks       a refused check leaves the buffer for ticks as it was, whether it holds ticks or, for a host in C, their bytes
+--     slots       and the buffer for slots
+pub record Whole (r : Run) : Type 0 where
+  pub accepted : answerOf r .number ≡ 0 → answerOf r .detail ≡ 0
+  pub counts : (answerOf r .number ≡ 0 → ⊥) → (answerOf r .elapsed ≡ 0) × (answerOf r .waits ≡ 0) × (answerOf r .loads ≡ 0)
+  pub room : (answerOf r .number ≡ 0 → ⊥) → (before : List ℕ) → lent (writtenBy r) before ≡ before
+  pub ticks : (answerOf r .number ≡ 0 → ⊥) → (before : List ℕ)
+      → (lent (ticksOf r) before ≡ before) × (lent (tickBytes (ticksOf r)) before ≡ before)
+  pub slots : (answerOf r .number ≡ 0 → ⊥) → (before : List ℕ) → lent (slotsOf r) before ≡ before
+
+-- So it is with every run whose number 0 is no refusal's.
+whole : (r : Run) → (answerOf r .number ≡ 0 → (s : State) × (r ≡ going s)) → Whole r
+unfolding tickBytes
+whole (going s) goes =
+    record {
+      accepted = λ e. refl;
+      counts = λ some. absurd (some refl);
+      room = λ some. absurd (some refl);
+      ticks = λ some. absurd (some refl);
+      slots = λ some. absurd (some refl);
+    }
+whole (refused n d) goes =
+    record {
+      accepted = λ e. let (s, ran) = goes e in let z : _≡_ {A = ℕ} 0 1 = cc in absurd (omega arith);
+      counts = λ some. (refl, refl, refl);
+      room = λ some before. refl;
+      ticks = λ some before. (refl, refl);
+      slots = λ some before. refl;
+    }
+
+-- Of every row of bytes, every plan's number and every room, a plan answers in full or is refused and leaves the room as it was.
+pub plan-whole : (job : List ℕ) (plan room : ℕ) → Whole (planned job plan room)
+plan-whole job plan room = whole (planned job plan room) (plan-goes job plan room)
+
+-- Of every two rows of bytes and every number of places, a check answers in full or is refused and leaves both buffers as they were.
+pub check-whole : (job list : List ℕ) (ticks slots : ℕ) → Whole (checked job list ticks slots)
+check-whole job list ticks slots = whole (checked job list ticks slots) (check-goes job list ticks slots)

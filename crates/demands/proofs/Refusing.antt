@@ -1,0 +1,187 @@
+-- Plan and check against the table of refusals: what refuses them is what the table gives, and a number 0 is never a refusal's.
+use Prim.Native.Nat.{ℕ, _<_, _≤_}
+use native.Mathlib.Omega.{arith}
+use mathlib.Core.Path.{_≡_, refl, sym, ap, _∙_}
+use mathlib.Core.Bool.{true, false}
+use mathlib.Core.List.{List}
+use mathlib.Core.Logic.{_⊎_, inl, inr}
+use lib.ListN.{length}
+use lib.Dec.{ltb}
+use borrow.Author.Tests.{ltb-true, ltb-false, lt-ltb}
+use Rattle.rules.specs.declared.JobReading.the-variants.{Taken}
+use Rattle.rules.specs.Job.{Job, shapeOf, jobOf}
+use Rattle.rules.specs.LoadList.{Event, eventsOf}
+use Rattle.rules.specs.Display.{State, Run, going, refused, start, finished, run}
+use Rattle.rules.specs.Plans.{ruleOf, runPlan}
+use Rattle.rules.specs.Refusals.{readJob, unruly, follow, patience, closing, follows, checked, planned, answerOf}
+use Rattle.laws.proofs.Cases.{by-test}
+use Rattle.laws.proofs.Jobs.{Proper, proper}
+use Rattle.laws.proofs.Along.{Ruly, unruly-within, over-in-time}
+use Rattle.plan_laws.proofs.Plans.{Any, plan-done}
+use Rattle.plan_laws.proofs.Keeping.{Done}
+use Rattle.demands.specs.Table.{Quiet, checkRows, Refuses, under-way, beyond, held, no-symbol, endless, Met, LeftOver, Given, at-once, in-time, at-the-end}
+use Rattle.demands.proofs.Stops.{going-is-not-refused, held-and-failed, then-refused, run-refused, refused-on-the-way, over-anyway, tick-refused, row-refuses}
+use Rattle.demands.proofs.Tables.{Finds, here, below, Clear, none, passed, late, planTests, checkTests, first-refused, given-refuses, clear-goes-on, numbered, given-number, gives-finds, finds-gives, quiet-clear, clear-quiet, plan-is-tests, check-is-tests}
+use Rattle.demands.proofs.Words.{check-words}
+
+-- ---- What a number says of the run behind it
+
+-- A call answers this number and this detail.
+abbrev pub Answers : Run → ℕ → ℕ → Type 0
+Answers r n d = (answerOf r .number ≡ n) × (answerOf r .detail ≡ d)
+
+-- A number other than 0 is a refusal's,
+pub refusal-is : (r : Run) (n d : ℕ) → (n ≡ 0 → ⊥) → Answers r n d → r ≡ refused n d
+refusal-is (going s) n d some a = absurd (some (sym (a .0)))
+refusal-is (refused m c) n d some a = let number : m ≡ n = a .0 in let detail : c ≡ d = a .1 in rw (number, detail)
+
+-- and a refusal answers its number and detail.
+pub answers-so : (r : Run) (n d : ℕ) → r ≡ refused n d → Answers r n d
+answers-so r n d e = rw e (refl, refl)
+
+-- ---- A plan
+
+-- A plan is refused only as its tests find it.
+pub plan-found : (job : List ℕ) (plan room n d : ℕ) → planned job plan room ≡ refused n d → Finds (planTests job plan room) n d
+plan-found job plan room n d e =
+    by-table (first-refused (planTests job plan room) _ n d (sym (plan-is-tests job plan room) ∙ e))
+  where
+    by-table : Finds (planTests job plan room) n d
+        ⊎ (Clear (planTests job plan room) × (runPlan (jobOf job) (ruleOf (jobOf job) plan) ≡ refused n d)) → Finds (planTests job plan room) n d
+    by-table (inl g) = g
+    by-table (inr (passed e₁ (passed e₂ (passed e₃ (passed e₄ (passed e₅ (passed e₆ (passed e₇ (passed in-limit none))))))), stops)) =
+        held-and-failed true refl (rw stops at in-limit)
+
+-- A plan of a job that is taken is over in time.
+in-limit : (job : List ℕ) (plan : ℕ) → readJob job ≡ Taken (shapeOf job) → late (runPlan (jobOf job) (ruleOf (jobOf job) plan)) ≡ false
+in-limit job plan taken =
+    let d : Done (jobOf job) (ruleOf (jobOf job) plan) Any = plan-done (jobOf job) (proper job _ taken) plan in rw (d .ran, d .over)
+
+-- So the test of row 15 is never the first to hold.
+pub never-late : (job : List ℕ) (plan room n d : ℕ) → Finds (planTests job plan room) n d → n ≡ 15 → ⊥
+never-late job plan room n d (here e) z = omega arith
+never-late job plan room n d (below e₁ (here e)) z = omega arith
+never-late job plan room n d (below e₁ (below e₂ (here e))) z = omega arith
+never-late job plan room n d (below e₁ (below e₂ (below e₃ (here e)))) z = omega arith
+never-late job plan room n d (below e₁ (below e₂ (below e₃ (below e₄ (here e))))) z = omega arith
+never-late job plan room n d (below e₁ (below e₂ (below e₃ (below e₄ (below e₅ (here e)))))) z = omega arith
+never-late job plan room n d (below e₁ (below e₂ (below e₃ (below e₄ (below e₅ (below e₆ (here e))))))) z = omega arith
+never-late job plan room n d (below e₁ (below e₂ (below e₃ (below e₄ (below e₅ (below e₆ (below e₇ (here e)))))))) z =
+    held-and-failed _ e (in-limit job plan (rw (e₁, e₂, e₃, e₄, e₅)))
+
+-- ---- A check
+
+-- A check whose tests before time begins all fail: its job is taken, and its events are in order.
+clear-so : (job list : List ℕ) (ticks slots : ℕ) → Clear (checkTests job list ticks slots)
+    → (readJob job ≡ Taken (shapeOf job)) × Ruly 0 (eventsOf list)
+clear-so job list ticks slots (passed e₁ (passed e₂ (passed e₃ (passed e₄ (passed e₅ (passed e₈ (passed e₇ (passed e₉ none)))))))) =
+    let at-least : length (eventsOf list) ≤ unruly 0 (eventsOf list) = ltb-false _ _ e₉ in
+    let at-most : unruly 0 (eventsOf list) ≤ length (eventsOf list) = unruly-within 0 (eventsOf list) in
+    (rw (e₁, e₂, e₃, e₄, e₅), omega arith)
+
+-- What time meets along a list, of a job that is taken and with the events in order.
+module _ (job : Job) (events : List Event) (good : Proper job) (ordered : Ruly 0 events) where
+  -- The run is over by the ticks that a check allows it.
+  over-by-then : (s : State) → run job (follow events) (patience job) (start job) ≡ going s → finished (s .rest) ≡ true
+  over-by-then s ran = ap finished (over-in-time job events good ordered s ran)
+
+  -- A row that time meets refuses the run, and so does an event left at the end.
+  met-refuses : (n d : ℕ) → Met job events n d → follows job events ≡ refused n d
+  met-refuses n d m =
+      rw (refused-on-the-way job (follow events) (patience job) over-by-then (m .ticks) (m .state) n d (m .ran) (m .more)
+      (row-refuses job events (m .state) n d (m .refuses)))
+
+  left-refuses : (d : ℕ) → LeftOver job events d → follows job events ≡ refused 14 d
+  left-refuses d l =
+      let left : l .state .loads < length events = rw (l .first) (l .left) in
+      rw (over-anyway job (follow events) (patience job) over-by-then (l .ticks) (l .state) (l .ran) (l .over), lt-ltb _ _ left, l .first)
+
+  -- Nothing else does.
+  refused-so : (n d : ℕ) → follows job events ≡ refused n d → Met job events n d ⊎ ((n ≡ 14) × LeftOver job events d)
+  refused-so n d e = by-end (then-refused (run job (follow events) (patience job) (start job)) (closing events) n d e)
+    where
+      by-end : (run job (follow events) (patience job) (start job) ≡ refused n d)
+          ⊎ ((s : State) × (run job (follow events) (patience job) (start job) ≡ going s) × (closing events s ≡ refused n d))
+          → Met job events n d ⊎ ((n ≡ 14) × LeftOver job events d)
+      by-end (inl stops) =
+          let (u, s, ran, more, now) = run-refused job (follow events) (patience job) (start job) n d stops in
+          inl (record { ticks = u; state = s; ran = ran; more = more; refuses = tick-refused job events s n d now })
+      by-end (inr (s, ran, closed)) =
+          by-test (ltb (s .loads) (length events))
+          (λ t.
+          let same : refused 14 (s .loads) ≡ refused n d = rw t at closed in
+          let number : n ≡ 14 = cc in
+          let detail : s .loads ≡ d = cc in
+          let left : s .loads < length events = ltb-true _ _ t in
+          inr (number, record { ticks = patience job; state = s; ran = ran; over = over-by-then s ran; left = rw (← detail) left; first = detail }))
+          (λ t. going-is-not-refused s n d (rw t at closed))
+
+-- A check is refused only as the table gives it,
+pub check-given : (job list : List ℕ) (ticks slots n d : ℕ) → checked job list ticks slots ≡ refused n d → Given job list ticks slots n d
+check-given job list ticks slots n d e =
+    by-table (first-refused (checkTests job list ticks slots) _ n d (sym (check-is-tests job list ticks slots) ∙ e))
+  where
+    by-time : Quiet (checkRows job list ticks slots)
+        → Met (jobOf job) (eventsOf list) n d ⊎ ((n ≡ 14) × LeftOver (jobOf job) (eventsOf list) d) → Given job list ticks slots n d
+    by-time q (inl m) = in-time q m
+    by-time q (inr (is, l)) = rw is (at-the-end q l)
+
+    by-table : Finds (checkTests job list ticks slots) n d
+        ⊎ (Clear (checkTests job list ticks slots) × (follows (jobOf job) (eventsOf list) ≡ refused n d)) → Given job list ticks slots n d
+    by-table (inl g) = at-once (finds-gives _ _ n d (check-words job list ticks slots) g)
+    by-table (inr (c, stops)) =
+        let (taken, ordered) = clear-so job list ticks slots c in
+        by-time (clear-quiet _ _ (check-words job list ticks slots) c)
+        (refused-so (jobOf job) (eventsOf list) (proper job _ taken) ordered n d stops)
+
+-- and what the table gives refuses it.
+pub given-check : (job list : List ℕ) (ticks slots n d : ℕ) → Given job list ticks slots n d → checked job list ticks slots ≡ refused n d
+given-check job list ticks slots n d (at-once g) =
+    check-is-tests job list ticks slots
+    ∙ given-refuses (checkTests job list ticks slots) _ n d (gives-finds _ _ n d (check-words job list ticks slots) g)
+given-check job list ticks slots n d (in-time q m) =
+    let c = quiet-clear _ _ (check-words job list ticks slots) q in
+    let (taken, ordered) = clear-so job list ticks slots c in
+    check-is-tests job list ticks slots
+    ∙ clear-goes-on (checkTests job list ticks slots) _ c
+    ∙ met-refuses (jobOf job) (eventsOf list) (proper job _ taken) ordered n d m
+given-check job list ticks slots n d (at-the-end q l) =
+    let c = quiet-clear _ _ (check-words job list ticks slots) q in
+    let (taken, ordered) = clear-so job list ticks slots c in
+    check-is-tests job list ticks slots
+    ∙ clear-goes-on (checkTests job list ticks slots) _ c
+    ∙ left-refuses (jobOf job) (eventsOf list) (proper job _ taken) ordered d l
+
+-- ---- Number 0, and no number that the table does not have
+
+-- No row has the number 0.
+refuses-number : (job : Job) (events : List Event) (s : State) (n d : ℕ) → Refuses job events s n d → n ≡ 0 → ⊥
+refuses-number job events s n d (under-way q x asks busy) z = omega arith
+refuses-number job events s n d (beyond q x asks quiet far) z = omega arith
+refuses-number job events s n d (held q x asks quiet slot there) z = omega arith
+refuses-number job events s n d (no-symbol q x asks quiet slot mark) z = omega arith
+refuses-number job events s n d (endless quiet unheld left) z = omega arith
+
+check-number : (job list : List ℕ) (ticks slots n d : ℕ) → Given job list ticks slots n d → n ≡ 0 → ⊥
+check-number job list ticks slots n d (at-once g) z = given-number (checkTests job list ticks slots) n d (unfold numbered in refl)
+    (gives-finds _ _ n d (check-words job list ticks slots) g) z
+check-number job list ticks slots n d (in-time q m) z = refuses-number (jobOf job) (eventsOf list) (m .state) n d (m .refuses) z
+check-number job list ticks slots n d (at-the-end q l) z = omega arith
+
+-- So where a call answers 0, it was not refused.
+goes : (r : Run) → ((n d : ℕ) → r ≡ refused n d → n ≡ 0 → ⊥) → answerOf r .number ≡ 0 → (s : State) × (r ≡ going s)
+goes (going s) refusal e = (s, refl)
+goes (refused n d) refusal e = absurd (refusal n d refl e)
+
+-- A plan that answers 0 went to its last draw.
+pub plan-goes : (job : List ℕ) (plan room : ℕ) → answerOf (planned job plan room) .number ≡ 0 → (s : State) × (planned job plan room ≡ going s)
+plan-goes job plan room e =
+    goes (planned job plan room)
+    (λ n d stops. given-number (planTests job plan room) n d (unfold numbered in refl) (plan-found job plan room n d stops)) e
+
+-- A check that answers 0 went to its last draw.
+pub check-goes : (job list : List ℕ) (ticks slots : ℕ) → answerOf (checked job list ticks slots) .number ≡ 0
+    → (s : State) × (checked job list ticks slots ≡ going s)
+check-goes job list ticks slots e =
+    goes (checked job list ticks slots)
+    (λ n d stops. check-number job list ticks slots n d (check-given job list ticks slots n d stops)) e

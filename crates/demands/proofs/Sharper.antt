@@ -1,0 +1,108 @@
+-- The sharper facts behind demand 3: the loads that have ended, conservative beside opt, and what a plan's loads and waits are.
+use Prim.Native.Nat.{ℕ, zero, suc, _+_, _*_, _-_, _≤_}
+use native.Mathlib.Omega.{arith}
+use mathlib.Core.Path.{_≡_, refl, sym, ap, _∙_}
+use mathlib.Core.Bool.{true, false}
+use mathlib.Core.List.{List, map}
+use lib.ListN.{length}
+use lib.Seq.{take-all}
+use Rattle.rules.specs.declared.Cause.{Cause}
+use Rattle.rules.specs.declared.Happening.the-variants.{Draw, Wait}
+use Rattle.rules.specs.declared.JobReading.the-variants.{Taken}
+use Rattle.rules.specs.Job.{Job, shapeOf, drawsOf, jobOf}
+use Rattle.rules.specs.LoadList.{head-size, event-size, last-tick, eventsOf}
+use Rattle.rules.specs.Basics.{place, stands}
+use Rattle.rules.specs.Display.{State, Run, going, refused, start, land, idle, awaited, beginning, happeningOf, happened, asked, tick, finished, run}
+use Rattle.rules.specs.Plans.{ruleOf}
+use Rattle.rules.specs.Refusals.{readJob, follow, patience, eventOf, checked, planned, answerOf}
+use Rattle.laws.proofs.Cases.{by-test}
+use Rattle.laws.proofs.Jobs.{Proper, proper}
+use Rattle.laws.proofs.Along.{along}
+use Rattle.laws.proofs.Checks.{Accepted, accepted}
+use Rattle.plan_laws.proofs.Keeping.{Done}
+use Rattle.plan_laws.proofs.OnDemand.{opt-done}
+use Rattle.plan_laws.proofs.Exact.{conservative-no-later}
+use Rattle.plan_laws.proofs.Conservative.{conservative-done}
+use Rattle.plan_laws.proofs.Plans.{Any, plan-done, planned-done}
+use Rattle.plan_laws.proofs.Demand.{conservative-better}
+use Rattle.demands.specs.Held.{endedBy}
+use Rattle.demands.proofs.Ended.{ended-but-one}
+use Rattle.demands.proofs.Stops.{going-is-not-refused, refused-on-the-way, endless-wait}
+use Rattle.demands.proofs.Refusing.{check-goes}
+use Rattle.demands.proofs.Demand1.{plan-accepts}
+
+-- Opt with room lent makes no more loads than any list that a check accepts has ended, where a load that would end with the last draw's
+-- tick or later has not ended.
+pub opt-loads-ended : (job list : List ℕ) (ticks slots room : ℕ)
+    → answerOf (checked job list ticks slots) .number ≡ 0
+    → head-size + event-size * length (drawsOf job) ≤ room
+    → answerOf (planned job 2 room) .loads ≤ endedBy (jobOf job .time) (answerOf (checked job list ticks slots) .elapsed) (eventsOf list)
+opt-loads-ended job list ticks slots room list-accepted enough =
+    let (s, followed) = check-goes job list ticks slots list-accepted in
+    let a : Accepted job list ticks slots s = accepted job list ticks slots s followed in
+    let good : Proper (jobOf job) = proper job _ (a .job-taken) in
+    let better = conservative-better (jobOf job) good (follow (eventsOf list)) (patience (jobOf job)) s (a .ran) (a .over) in
+    let same = conservative-no-later (jobOf job) good .1 in
+    let front = along (jobOf job) (eventsOf list) good (a .ordered) (patience (jobOf job)) s (a .ran) .so-far in
+    let whole : map eventOf (s .begun) ≡ eventsOf list = front ∙ take-all (s .loads) (eventsOf list) (omega (arith, a .all-begun)) in
+    let ended = ended-but-one (jobOf job) (follow (eventsOf list)) good (patience (jobOf job)) s (a .ran) in
+    rw (planned-done job (shapeOf job) 2 room (a .job-taken) (omega arith) enough (opt-done (jobOf job) good), followed)
+    (omega (arith, same, better .loads-ended, rw whole at ended))
+
+-- Of every job that is accepted, with room lent, conservative is never later than opt, with as many loads.
+pub conservative-before-opt : (job : List ℕ) (room : ℕ) → readJob job ≡ Taken (shapeOf job)
+    → head-size + event-size * length (drawsOf job) ≤ room
+    → (answerOf (planned job 1 room) .elapsed ≤ answerOf (planned job 2 room) .elapsed)
+    × (answerOf (planned job 1 room) .loads ≡ answerOf (planned job 2 room) .loads)
+conservative-before-opt job room taken enough =
+    let good : Proper (jobOf job) = proper job _ taken in
+    rw (
+      planned-done job (shapeOf job) 1 room taken (omega arith) enough (conservative-done (jobOf job) good),
+      planned-done job (shapeOf job) 2 room taken (omega arith) enough (opt-done (jobOf job) good),
+    ) (conservative-no-later (jobOf job) good)
+
+-- A plan that is accepted makes at most one load to each draw, and waits at most F ticks for each load.
+pub plan-loads-few : (job : List ℕ) (plan room : ℕ) → answerOf (planned job plan room) .number ≡ 0
+    → (answerOf (planned job plan room) .loads ≤ length (drawsOf job))
+    × (answerOf (planned job plan room) .waits ≤ jobOf job .time * answerOf (planned job plan room) .loads)
+plan-loads-few job plan room plan-accepted =
+    let (taken, known, enough) = plan-accepts job plan room .0 plan-accepted in
+    let d : Done (jobOf job) (ruleOf (jobOf job) plan) Any = plan-done (jobOf job) (proper job _ taken) plan in
+    rw (planned-done job (shapeOf job) plan room taken known enough d) (d .few, d .prompt)
+
+-- A plan never says that it would ask again later.
+always-done : (job : Job) (plan : ℕ) (s : State) → ruleOf job plan .done s ≡ true
+always-done job zero s = refl
+always-done job (suc zero) s = refl
+always-done job (suc (suc zero)) s = refl
+always-done job (suc (suc (suc p))) s = refl
+
+-- So a tick of its run that waits with no load under way would be refused.
+wait-stops : (job : Job) (plan : ℕ) (s after : State) (c : Cause)
+    → beginning job (asked (ruleOf job plan) s) (land s) ≡ going after → happeningOf after ≡ Wait c → idle (after .loading) ≡ true
+    → tick job (ruleOf job plan) s ≡ refused 13 (after .next)
+unfolding tick happened
+wait-stops job plan s after c began waits quiet =
+    by-test (stands (awaited after) (after .slots))
+    (λ t. let z : _≡_ {A = ℕ} 0 1 = let g : Draw (place (awaited after) (after .slots)) ≡ Wait c = rw t at waits in cc in absurd (omega arith))
+    (λ t. rw (began, t, always-done job plan after, endless-wait (after .loading) (awaited after) quiet))
+
+-- At every tick of a plan's run that is a wait, a load is under way, one begun in that tick counted in.
+pub waits-under-way : (job : List ℕ) (plan : ℕ) → readJob job ≡ Taken (shapeOf job)
+    → (t : ℕ) (s after : State) (c : Cause)
+    → run (jobOf job) (ruleOf (jobOf job) plan) t (start (jobOf job)) ≡ going s
+    → finished (s .rest) ≡ false
+    → beginning (jobOf job) (asked (ruleOf (jobOf job) plan) s) (land s) ≡ going after
+    → happeningOf after ≡ Wait c
+    → idle (after .loading) ≡ false
+waits-under-way job plan taken t s after c ran more began waits =
+    let rule = ruleOf (jobOf job) plan in
+    let d : Done (jobOf job) rule Any = plan-done (jobOf job) (proper job _ taken) plan in
+    by-test (idle (after .loading))
+    (λ quiet.
+    going-is-not-refused (d .last) 13 (after .next)
+    (sym (d .ran)
+    ∙ refused-on-the-way (jobOf job) rule last-tick
+    (λ last ended. let same : d .last ≡ last = let g : going (d .last) ≡ going last = sym (d .ran) ∙ ended in cc in rw (← same) (ap finished (d .over)))
+    t s 13 (after .next) ran more (wait-stops (jobOf job) plan s after c began waits quiet)))
+    (λ busy. busy)
