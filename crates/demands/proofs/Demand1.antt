@@ -4,7 +4,7 @@ use Prim.Native.Nat.{ℕ, _+_, _*_, _≤_}
 use native.Mathlib.Omega.{arith}
 use mathlib.Core.Path.{_≡_, refl, sym, _∙_}
 use mathlib.Core.List.{List}
-use mathlib.Core.Logic.{_↔_}
+use mathlib.Core.Logic.{_↔_, _⊎_, inl, inr}
 use lib.ListN.{length}
 use borrow.Author.Tests.{ltb-false}
 use Rattle.rules.specs.declared.JobReading.the-variants.{Taken}
@@ -40,6 +40,26 @@ check-refusals job list ticks slots n d some = (
   λ a. check-given job list ticks slots n d (refusal-is (checked job list ticks slots) n d some a),
   λ g. answers-so (checked job list ticks slots) n d (given-check job list ticks slots n d g),
 )
+
+-- Every plan answers: with number 0 and detail 0, or with what its table gives.
+pub plan-always : (job : List ℕ) (plan room : ℕ)
+    → Answers (planned job plan room) 0 0
+    ⊎ ((n d : ℕ) × Answers (planned job plan room) n d × Gives (planRows job plan room) n d)
+plan-always job plan room = by-run (planned job plan room) refl
+  where
+    by-run : (r : Run) → planned job plan room ≡ r → Answers r 0 0 ⊎ ((n d : ℕ) × Answers r n d × Gives (planRows job plan room) n d)
+    by-run (going s) e = inl (refl, refl)
+    by-run (refused n d) e = inr (n, d, (refl, refl), finds-gives _ _ n d (plan-words job plan room) (plan-found job plan room n d e))
+
+-- Every check answers: with number 0 and detail 0, or with what the table gives.
+pub check-always : (job list : List ℕ) (ticks slots : ℕ)
+    → Answers (checked job list ticks slots) 0 0
+    ⊎ ((n d : ℕ) × Answers (checked job list ticks slots) n d × Given job list ticks slots n d)
+check-always job list ticks slots = by-run (checked job list ticks slots) refl
+  where
+    by-run : (r : Run) → checked job list ticks slots ≡ r → Answers r 0 0 ⊎ ((n d : ℕ) × Answers r n d × Given job list ticks slots n d)
+    by-run (going s) e = inl (refl, refl)
+    by-run (refused n d) e = inr (n, d, (refl, refl), check-given job list ticks slots n d e)
 
 -- Refusal 15 is never given: every plan of a job that is taken is over long before the last tick that a list can name.
 pub plan-never-late : (job : List ℕ) (plan room : ℕ) → answerOf (planned job plan room) .number ≡ 15 → ⊥

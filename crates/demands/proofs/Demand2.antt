@@ -37,8 +37,7 @@ accepted-exactly job list tick-places slot-places ticks slots answer = (
       record { accepted = rw ran; ticks-are = same-ticks; slots-are = same-slots; answer-is = same-answer },
 )
 
--- Of a job that is accepted, each of the four plans with room lent answers 0, and its list, checked with room lent, is accepted with the
--- same elapsed, waits and loads and the same draws.
+-- A plan and the check of the list that it writes: both are accepted, with the same answer and the same draws.
 pub record Checks (job : List ℕ) (plan room ticks slots : ℕ) : Type 0 where
   pub plan-accepted : answerOf (planned job plan room) .number ≡ 0
   pub list-accepted : answerOf (checked job (writtenBy (planned job plan room)) ticks slots) .number ≡ 0
@@ -46,6 +45,8 @@ pub record Checks (job : List ℕ) (plan room ticks slots : ℕ) : Type 0 where
   pub same-ticks : ticksOf (checked job (writtenBy (planned job plan room)) ticks slots) ≡ ticksOf (planned job plan room)
   pub same-slots : slotsOf (checked job (writtenBy (planned job plan room)) ticks slots) ≡ slotsOf (planned job plan room)
 
+-- Of a job that is accepted, each of the four plans with room lent answers 0, and its list, checked with room lent, is accepted with the
+-- same elapsed, waits and loads and the same draws.
 pub plans-accepted : (job : List ℕ) (plan room ticks slots : ℕ) → readJob job ≡ Taken (shapeOf job) → plan ≤ last-plan
     → head-size + event-size * length (drawsOf job) ≤ room → length (drawsOf job) ≤ ticks → length (drawsOf job) ≤ slots
     → Checks job plan room ticks slots

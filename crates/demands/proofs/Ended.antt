@@ -1,5 +1,5 @@
 -- The loads that have ended, counted from the list alone, are all loads begun but the one that is under way.
-use Prim.Native.Nat.{ℕ, zero, suc, _+_, _<_, _≤_}
+use Prim.Native.Nat.{ℕ, suc, _+_, _<_, _≤_}
 use native.Mathlib.Omega.{arith}
 use mathlib.Core.Path.{_≡_, refl}
 use mathlib.Core.List.{List, [], _∷_, _++_, map, append-nil}
@@ -47,10 +47,11 @@ ended-now time tick (Under left q x) begun h =
     (λ i m. let b : getD (map loadTick (l .before)) i 0 + time ≤ l .tick = l .ended i m in omega arith) in
     omega (arith, rw (← l .is-last) at all)
 
--- So it is between the ticks of every run.
+-- The same between ticks.
 abbrev EndedState : Job → State → Type 0
 EndedState job s = length (s .begun) ≤ endedBy (job .time) (s .tick) (map eventOf (s .begun)) + underOf (s .loading)
 
+-- Every tick of a run brings it about.
 ended-moves : (job : Job) (rule : Rule)
     → Upon job rule (BusyBetween job) (BusyLanded job) (BusyBegun job) (EndedState job) Any Any
 ended-moves job rule =

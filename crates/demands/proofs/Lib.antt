@@ -8,6 +8,7 @@ pub mod Tables
 pub mod Words
 pub mod Refusing
 pub mod Demand1
+pub mod Fits
 pub mod NoSecondAnswer
 pub mod Demand2
 pub mod Demand3

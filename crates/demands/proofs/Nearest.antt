@@ -13,15 +13,17 @@ use Rattle.rules.specs.Refusals.{checked, due, unruly, doubled, inTime, answerO
 use Rattle.rules.specs.Worked.{symbolBytes, jobBytes, numbers, accepts}
 use Rattle.demands.proofs.Demand3.{NoWorse}
 
--- The slot whose content comes up soonest along a row.
+-- The smallest of some numbers.
 unfoldable least : List ℕ → ℕ
 least [] = 0
 least (r ∷ []) = r
 least (r ∷ q ∷ l) = min r (least (q ∷ l))
 
+-- The slot whose content comes up soonest along a row.
 abbrev nearest : List ℕ → List ℕ → ℕ
 nearest row slots = place (least (map (rank row) slots)) (map (rank row) slots)
 
+-- Opt with that slot given up.
 abbrev nearestOpt : Rule
 nearestOpt = on-demand (λ s. nearest (ahead s) (s .slots))
 

@@ -85,12 +85,13 @@ module _ (job : Job) (events : List Event) (good : Proper job) (ordered : Ruly 0
   over-by-then : (s : State) → run job (follow events) (patience job) (start job) ≡ going s → finished (s .rest) ≡ true
   over-by-then s ran = ap finished (over-in-time job events good ordered s ran)
 
-  -- A row that time meets refuses the run, and so does an event left at the end.
+  -- A row that time meets refuses the run,
   met-refuses : (n d : ℕ) → Met job events n d → follows job events ≡ refused n d
   met-refuses n d m =
       rw (refused-on-the-way job (follow events) (patience job) over-by-then (m .ticks) (m .state) n d (m .ran) (m .more)
       (row-refuses job events (m .state) n d (m .refuses)))
 
+  -- and so does an event left at the end.
   left-refuses : (d : ℕ) → LeftOver job events d → follows job events ≡ refused 14 d
   left-refuses d l =
       let left : l .state .loads < length events = rw (l .first) (l .left) in
@@ -154,7 +155,7 @@ given-check job list ticks slots n d (at-the-end q l) =
 
 -- ---- Number 0, and no number that the table does not have
 
--- No row has the number 0.
+-- No row that time meets has the number 0,
 refuses-number : (job : Job) (events : List Event) (s : State) (n d : ℕ) → Refuses job events s n d → n ≡ 0 → ⊥
 refuses-number job events s n d (under-way q x asks busy) z = omega arith
 refuses-number job events s n d (beyond q x asks quiet far) z = omega arith
@@ -162,6 +163,7 @@ refuses-number job events s n d (held q x asks quiet slot there) z = omega arith
 refuses-number job events s n d (no-symbol q x asks quiet slot mark) z = omega arith
 refuses-number job events s n d (endless quiet unheld left) z = omega arith
 
+-- and no row of the whole table has.
 check-number : (job list : List ℕ) (ticks slots n d : ℕ) → Given job list ticks slots n d → n ≡ 0 → ⊥
 check-number job list ticks slots n d (at-once g) z = given-number (checkTests job list ticks slots) n d (unfold numbered in refl)
     (gives-finds _ _ n d (check-words job list ticks slots) g) z

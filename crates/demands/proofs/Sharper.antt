@@ -1,5 +1,5 @@
 -- The sharper facts behind demand 3: the loads that have ended, conservative beside opt, and what a plan's loads and waits are.
-use Prim.Native.Nat.{ℕ, zero, suc, _+_, _*_, _-_, _≤_}
+use Prim.Native.Nat.{ℕ, zero, suc, _+_, _*_, _≤_}
 use native.Mathlib.Omega.{arith}
 use mathlib.Core.Path.{_≡_, refl, sym, ap, _∙_}
 use mathlib.Core.Bool.{true, false}
@@ -12,7 +12,7 @@ use Rattle.rules.specs.declared.JobReading.the-variants.{Taken}
 use Rattle.rules.specs.Job.{Job, shapeOf, drawsOf, jobOf}
 use Rattle.rules.specs.LoadList.{head-size, event-size, last-tick, eventsOf}
 use Rattle.rules.specs.Basics.{place, stands}
-use Rattle.rules.specs.Display.{State, Run, going, refused, start, land, idle, awaited, beginning, happeningOf, happened, asked, tick, finished, run}
+use Rattle.rules.specs.Display.{State, going, refused, start, land, idle, awaited, beginning, happeningOf, happened, asked, tick, finished, run}
 use Rattle.rules.specs.Plans.{ruleOf}
 use Rattle.rules.specs.Refusals.{readJob, follow, patience, eventOf, checked, planned, answerOf}
 use Rattle.laws.proofs.Cases.{by-test}
@@ -31,8 +31,7 @@ use Rattle.demands.proofs.Stops.{going-is-not-refused, refused-on-the-w
 use Rattle.demands.proofs.Refusing.{check-goes}
 use Rattle.demands.proofs.Demand1.{plan-accepts}
 
--- Opt with room lent makes no more loads than any list that a check accepts has ended, where a load that would end with the last draw's
--- tick or later has not ended.
+-- Opt with room lent makes no more loads than any list that a check accepts has ended: a load that ends only after the last draw is left out.
 pub opt-loads-ended : (job list : List ℕ) (ticks slots room : ℕ)
     → answerOf (checked job list ticks slots) .number ≡ 0
     → head-size + event-size * length (drawsOf job) ≤ room

@@ -23,12 +23,13 @@ use Rattle.laws.proofs.Moves.{beginning-going}
 use Rattle.laws.proofs.Runs.{run-finished, run-unfinished, run-then, run-longer, on-the-way}
 use Rattle.demands.specs.Table.{Due, Refuses, under-way, beyond, held, no-symbol, endless}
 
--- A run that goes is not refused, and a test does not both hold and fail.
+-- A run that goes is not refused,
 pub going-is-not-refused : {A : Type 0} (s : State) (n d : ℕ) → going s ≡ refused n d → A
 going-is-not-refused s n d e = let z : _≡_ {A = ℕ} 0 1 = cc in absurd (omega arith)
 
+-- and a test does not both hold and fail.
 pub held-and-failed : {A : Type 0} (b : Bool) → b ≡ true → b ≡ false → A
-held-and-failed b yes-it-is not-it-is = let z : _≡_ {A = ℕ} 0 1 = cc in absurd (omega arith)
+held-and-failed b held-so failed-so = let z : _≡_ {A = ℕ} 0 1 = cc in absurd (omega arith)
 
 -- A run behind another that is refused: the first was, or it went on to a state from which the second was.
 pub then-refused : (r : Run) (f : State → Run) (n d : ℕ) → then r f ≡ refused n d

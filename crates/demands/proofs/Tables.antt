@@ -36,7 +36,7 @@ abbrev pub late : Run → Bool
 late (going s) = not (finished (s .rest))
 late (refused number detail) = true
 
--- The tests of the definitions in their order.
+-- The tests of the definitions in their order: of a job,
 abbrev pub jobTests : List ℕ → List Test
 jobTests job =
     test 1 0 (badJobLength job)
@@ -46,6 +46,7 @@ jobTests job =
     ∷ test 5 0 (badSymbols (startingOf job) (drawsOf job))
     ∷ []
 
+-- of a plan,
 abbrev pub planTests : List ℕ → ℕ → ℕ → List Test
 planTests job plan room =
     jobTests job
@@ -54,6 +55,7 @@ planTests job plan room =
     ∷ test 15 0 (late (runPlan (jobOf job) (ruleOf (jobOf job) plan)))
     ∷ [])
 
+-- and of a check before time begins.
 abbrev pub checkTests : List ℕ → List ℕ → ℕ → ℕ → List Test
 checkTests job list ticks slots =
     jobTests job
@@ -67,7 +69,7 @@ unfoldable pub firstOf : List Test → Run → Run
 firstOf [] behind = behind
 firstOf (test n d holds ∷ later) behind = cond holds (refused n d) (firstOf later behind)
 
--- What is refused is what a test finds, or no test holds and it is refused behind them; and the other way round.
+-- What is refused is what a test finds, or no test holds and it is refused behind them.
 pub first-refused : (rows : List Test) (behind : Run) (n d : ℕ) → firstOf rows behind ≡ refused n d
     → Finds rows n d ⊎ (Clear rows × (behind ≡ refused n d))
 unfolding firstOf
@@ -83,11 +85,13 @@ first-refused (test m c false ∷ later) behind n d e = shifted (first-refused l
     shifted (inl g) = inl (below refl g)
     shifted (inr (q, b)) = inr (passed refl q, b)
 
+-- What a test finds is refused.
 pub given-refuses : (rows : List Test) (behind : Run) (n d : ℕ) → Finds rows n d → firstOf rows behind ≡ refused n d
 unfolding firstOf
 given-refuses (test m c holds ∷ later) behind n d (here e) = rw e
 given-refuses (test m c holds ∷ later) behind n d (below e g) = rw e (given-refuses later behind n d g)
 
+-- Where no test holds, the run behind them decides.
 pub clear-goes-on : (rows : List Test) (behind : Run) → Clear rows → firstOf rows behind ≡ behind
 unfolding firstOf
 clear-goes-on [] behind q = refl
@@ -100,11 +104,12 @@ going-clear [] behind s e = (none, e)
 going-clear (test m c true ∷ later) behind s e = going-is-not-refused s m c (sym e)
 going-clear (test m c false ∷ later) behind s e = let (q, b) = going-clear later behind s e in (passed refl q, b)
 
--- No test has the number 0.
+-- Whether no test has the number 0.
 unfoldable pub numbered : List Test → Bool
 numbered [] = true
 numbered (test n d holds ∷ later) = not (eqb n 0) && numbered later
 
+-- Then 0 is not found.
 pub given-number : (rows : List Test) (n d : ℕ) → numbered rows ≡ true → Finds rows n d → n ≡ 0 → ⊥
 unfolding numbered
 given-number (test m c holds ∷ later) n d e (here h) z = let never : false ≡ true = rw z at e in held-and-failed false never refl
@@ -152,15 +157,16 @@ pub data Agree : List Row → List Test → Type 1 where
   more : {n c : ℕ} {holds : ℕ → Type 0} {tested : Bool} {rows : List Row} {tests : List Test} → Says holds c tested → Agree rows tests
       → Agree (row n holds ∷ rows) (test n c tested ∷ tests)
 
--- Where a row does not hold its test fails, and the other way round.
+-- Where a row does not hold its test fails,
 untested : (holds : ℕ → Type 0) (c : ℕ) (tested : Bool) → Says holds c tested → ((d : ℕ) → holds d → ⊥) → tested ≡ false
 untested holds c true s fails = absurd (fails c (s .so refl))
 untested holds c false s fails = refl
 
+-- and where a test fails its row does not hold.
 unsaid : (holds : ℕ → Type 0) (c : ℕ) (tested : Bool) → Says holds c tested → tested ≡ false → (d : ℕ) → holds d → ⊥
 unsaid holds c tested s fails d h = held-and-failed tested (s .found d h .0) fails
 
--- Then they give the same.
+-- Then what the table gives the tests find,
 pub gives-finds : (rows : List Row) (tests : List Test) (n d : ℕ) → Agree rows tests → Gives rows n d → Finds tests n d
 unfolding Gives
 gives-finds rows tests n d (more s a) (inl (is, this)) =
@@ -168,16 +174,19 @@ gives-finds rows tests n d (more s a) (inl (is, this)) =
 gives-finds rows tests n d (more s a) (inr (fails, g)) =
     below (untested _ _ _ s fails) (gives-finds _ _ n d a g)
 
+-- what the tests find the table gives,
 pub finds-gives : (rows : List Row) (tests : List Test) (n d : ℕ) → Agree rows tests → Finds tests n d → Gives rows n d
 unfolding Gives
 finds-gives rows tests n d (more s a) (here e) = inl (refl, s .so e)
 finds-gives rows tests n d (more s a) (below e g) = inr (unsaid _ _ _ s e, finds-gives _ _ n d a g)
 
+-- where no row holds no test does,
 pub quiet-clear : (rows : List Row) (tests : List Test) → Agree rows tests → Quiet rows → Clear tests
 unfolding Quiet
 quiet-clear rows tests end q = none
 quiet-clear rows tests (more s a) (fails, q) = passed (untested _ _ _ s fails) (quiet-clear _ _ a q)
 
+-- and where no test holds no row does.
 pub clear-quiet : (rows : List Row) (tests : List Test) → Agree rows tests → Clear tests → Quiet rows
 unfolding Quiet
 clear-quiet rows tests end c = tt

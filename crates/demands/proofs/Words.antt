@@ -7,38 +7,41 @@ use mathlib.Core.List.{List, [], _∷_, _++_}
 use mathlib.Core.Logic.{_⊎_, inl, inr}
 use lib.ListN.{length, getD}
 use lib.Dec.{eqb, ltb}
-use borrow.Author.Tests.{ltb-true, lt-ltb, le-ltb, ltb-false, eqb-true, eqb-false, ne-eqb, not-true, not-false}
+use borrow.Author.Tests.{ltb-true, lt-ltb, ltb-false, eqb-false, ne-eqb, not-true, not-false}
 use Rattle.rules.specs.declared.Shape.{Shape}
 use Rattle.rules.specs.Basics.{place, stands, number32}
 use Rattle.rules.specs.Job.{free, most-slots, most-time, most-draws, shapeOf, startingOf, drawsOf, jobOf}
 use Rattle.rules.specs.LoadList.{Event, event, most-events, last-tick, head-size, event-size, countOf, eventsOf}
-use Rattle.rules.specs.Display.{State, Run, going, refused, finished}
+use Rattle.rules.specs.Display.{Run, going, refused, finished}
 use Rattle.rules.specs.Plans.{ruleOf, runPlan}
-use Rattle.rules.specs.Refusals.{badJobLength, badJobVersion, badLimits, badJobSize, badSymbols, doubled, badList, unruly, shortCheck}
+use Rattle.rules.specs.Refusals.{badJobLength, badLimits, badSymbols, doubled, badList, unruly}
 use Rattle.laws.proofs.Cases.{by-test, neither}
 use Rattle.laws.proofs.Search.{place-holds, present}
-use Rattle.laws.proofs.Along.{unruly-within}
 use Rattle.plan_laws.proofs.Asking.{both-true}
 use Rattle.demands.specs.Fair.{eventTick, eventAt}
 use Rattle.demands.specs.Table as table
-use Rattle.demands.specs.Table.{Row, JobLengthWrong, OutsideLimits, no-slot, many-slots, no-time, long-time, many-draws, SymbolsWrong, twice, free-drawn, jobRows, Late, planRows, ListWrong, wrong-version, many-events, wrong-size, PlacesShort, few-ticks, few-slots, lowest, OutOfOrder, over-limit, not-above, FirstOutOfOrder, checkRows}
+use Rattle.demands.specs.Table.{Row, JobLengthWrong, OutsideLimits, no-slot, many-slots, no-time, long-time, many-draws, SymbolsWrong, twice, free-drawn, jobRows, Late, planRows, ListWrong, wrong-version, many-events, wrong-size, PlacesShort, few-ticks, few-slots, OutOfOrder, over-limit, not-above, FirstOutOfOrder, checkRows}
 use Rattle.demands.proofs.Stops.{held-and-failed}
 use Rattle.demands.proofs.Tables.{Test, Says, Agree, end, more, late, jobTests, planTests, checkTests}
 
 -- ---- Tests in general
 
+-- Of two tests of which one holds, it is the first or the second.
 either : {A : Type 0} (a b : Bool) → (a || b) ≡ true → (a ≡ true → A) → (b ≡ true → A) → A
 either true b e one other = one refl
 either false b e one other = other e
 
+-- Where the first holds, one of the two does.
 first-of : (a b : Bool) → a ≡ true → (a || b) ≡ true
 first-of true b e = refl
 first-of false b e = held-and-failed false e refl
 
+-- So it is where the second holds.
 second-of : (a b : Bool) → b ≡ true → (a || b) ≡ true
 second-of true b e = refl
 second-of false b e = e
 
+-- Where none of five tests holds, each fails.
 none-of-five : (a b c d e : Bool) → (a || b || c || d || e) ≡ false
     → (a ≡ false) × (b ≡ false) × (c ≡ false) × (d ≡ false) × (e ≡ false)
 none-of-five a b c d e h =
@@ -48,10 +51,11 @@ none-of-five a b c d e h =
     let (first, second) = neither a b h₂ in
     (first, second, third, fourth, fifth)
 
--- Two numbers are told apart by a test.
+-- Two numbers that a test tells apart are not the same,
 unlike : (a b : ℕ) → not (eqb a b) ≡ true → a ≡ b → ⊥
 unlike a b e = eqb-false a b (not-true (eqb a b) e)
 
+-- and two that are not the same are told apart.
 is-unlike : (a b : ℕ) → (a ≡ b → ⊥) → not (eqb a b) ≡ true
 is-unlike a b other = rw (ne-eqb a b other)
 
@@ -65,6 +69,7 @@ plainly tested to from =
 
 -- ---- Rows 1 to 5
 
+-- Row 1.
 length-words : (job : List ℕ) → Says (λ d. (d ≡ 0) × JobLengthWrong job) 0 (badJobLength job)
 length-words job = plainly (badJobLength job) to from
   where
@@ -78,6 +83,7 @@ length-words job = plainly (badJobLength job) to from
         (λ t. table.JobLengthWrong.short (ltb-true (length job) 10 t))
         (λ t. table.JobLengthWrong.wrong-length (unlike (number32 job 0) (length job - 4) t))
 
+-- Where the test of row 3 fails, each of its parts does.
 limits-fail : (shape : Shape) → badLimits shape ≡ false
     → (ltb (shape .slots) 1 ≡ false)
     × (ltb most-slots (shape .slots) ≡ false)
@@ -87,6 +93,7 @@ limits-fail : (shape : Shape) → badLimits shape ≡ false
 limits-fail shape e =
     none-of-five (ltb (shape .slots) 1) (ltb most-slots (shape .slots)) (ltb (shape .time) 1) (ltb most-time (shape .time)) _ e
 
+-- Row 3.
 limits-words : (shape : Shape) → Says (λ d. (d ≡ 0) × OutsideLimits shape) 0 (badLimits shape)
 limits-words shape = plainly (badLimits shape) to from
   where
@@ -109,7 +116,7 @@ limits-words shape = plainly (badLimits shape) to from
         (λ t. long-time (ltb-true most-time (shape .time) t)))
         (λ t. many-draws (ltb-true most-draws (shape .draws) t))
 
--- A row of symbols with one of them twice.
+-- A doubled symbol stands in two places,
 doubled-so : (l : List ℕ) → doubled l ≡ true
     → (i j : ℕ) × (i < j) × (j < length l) × (getD l i 0 ≡ getD l j 0) × (getD l i 0 ≡ free → ⊥)
 unfolding doubled
@@ -122,6 +129,7 @@ doubled-so (x ∷ l) e =
     (0, suc (place x l), omega arith, omega arith, sym (place-holds x l inside), unlike x free symbol))
     (λ t. let (i, j, before, inside, same, symbol) = doubled-so l t in (suc i, suc j, omega arith, omega arith, same, symbol))
 
+-- and one that stands in two places is doubled.
 so-doubled : (l : List ℕ) (i j : ℕ) → i < j → j < length l → getD l i 0 ≡ getD l j 0 → (getD l i 0 ≡ free → ⊥) → doubled l ≡ true
 unfolding doubled
 so-doubled [] i j before inside same symbol = absurd (omega arith)
@@ -131,6 +139,7 @@ so-doubled (x ∷ l) zero (suc j) before inside same symbol =
 so-doubled (x ∷ l) (suc i) (suc j) before inside same symbol =
     second-of (not (eqb x free) && stands x l) (doubled l) (so-doubled l i j (omega arith) (omega arith) same symbol)
 
+-- Row 5.
 symbols-words : (starting draws : List ℕ) → Says (λ d. (d ≡ 0) × SymbolsWrong starting draws) 0 (badSymbols starting draws)
 symbols-words starting draws = plainly (badSymbols starting draws) to from
   where
@@ -148,6 +157,7 @@ symbols-words starting draws = plainly (badSymbols starting draws) to from
 
 -- ---- Rows 7 to 9
 
+-- Where the test of row 8 fails, each of its parts does.
 list-fails : (list : List ℕ) → badList list ≡ false
     → (ltb (length list) head-size ≡ false)
     × (not (eqb (number32 list 0) (length list - 4)) ≡ false)
@@ -158,6 +168,7 @@ list-fails list e =
     none-of-five (ltb (length list) head-size) (not (eqb (number32 list 0) (length list - 4))) (not (eqb (getD list 4 0) 1))
     (ltb most-events (countOf list)) _ e
 
+-- Row 8.
 list-words : (list : List ℕ) → Says (λ d. (d ≡ 0) × ListWrong list) 0 (badList list)
 list-words list = plainly (badList list) to from
   where
@@ -181,6 +192,7 @@ list-words list = plainly (badList list) to from
         (λ t. many-events (ltb-true most-events (countOf list) t)))
         (λ t. wrong-size (unlike (number32 list 0) (3 + event-size * countOf list) t))
 
+-- Row 7 of a check.
 places-words : (draws ticks slots : ℕ) → Says (λ d. (d ≡ 0) × PlacesShort draws ticks slots) 0 (ltb ticks draws || ltb slots draws)
 places-words draws ticks slots = plainly (ltb ticks draws || ltb slots draws) to from
   where
@@ -191,24 +203,26 @@ places-words draws ticks slots = plainly (ltb ticks draws || ltb slots draws) to
     from : (ltb ticks draws || ltb slots draws) ≡ true → PlacesShort draws ticks slots
     from e = either _ _ e (λ t. few-ticks (ltb-true ticks draws t)) (λ t. few-slots (ltb-true slots draws t))
 
--- The walk that looks for the first event out of order, from a lowest tick on.
+-- The lowest tick of an event where the first may not come before a tick,
 abbrev low : ℕ → List Event → ℕ → ℕ
 low least events zero = least
 low least events (suc i) = eventTick (eventAt events i) + 1
 
+-- and an event that is out of order by that.
 abbrev Wrong : ℕ → List Event → ℕ → Type 0
 Wrong least events i = (last-tick < eventTick (eventAt events i)) ⊎ (eventTick (eventAt events i) < low least events i)
 
--- An event behind the first one, seen from the list behind the first one.
+-- An event behind the first one is out of order in the list behind the first one,
 one-down : (least t q x : ℕ) (l : List Event) (i : ℕ) → Wrong least (event t q x ∷ l) (suc i) → Wrong (t + 1) l i
 one-down least t q x l zero w = w
 one-down least t q x l (suc i) w = w
 
+-- and the other way round.
 one-up : (least t q x : ℕ) (l : List Event) (i : ℕ) → Wrong (t + 1) l i → Wrong least (event t q x ∷ l) (suc i)
 one-up least t q x l zero w = w
 one-up least t q x l (suc i) w = w
 
--- It finds one that is,
+-- The walk that looks for the first event out of order finds one that is,
 found-wrong : (least : ℕ) (events : List Event) → unruly least events < length events → Wrong least events (unruly least events)
 unfolding unruly
 found-wrong least [] h = absurd (omega arith)
@@ -234,16 +248,19 @@ none-before least (event t q x ∷ l) i h w =
     behind zero h fine (inr under) later = let least-tick : least ≤ t = ltb-false t least (fine .1) in omega arith
     behind (suc j) h fine w later = later j (omega arith) (one-down least t q x l j w)
 
+-- From tick 0 on that is what row 9 says,
 wrong-so : (events : List Event) (i : ℕ) → Wrong 0 events i → OutOfOrder events i
 wrong-so events i (inl over) = over-limit over
 wrong-so events zero (inr under) = not-above under
 wrong-so events (suc i) (inr under) = not-above under
 
+-- and what row 9 says is that.
 so-wrong : (events : List Event) (i : ℕ) → OutOfOrder events i → Wrong 0 events i
 so-wrong events i (over-limit over) = inl over
 so-wrong events zero (not-above under) = inr under
 so-wrong events (suc i) (not-above under) = inr under
 
+-- Row 9, with the first such event.
 order-words : (events : List Event) → Says (FirstOutOfOrder events) (unruly 0 events) (ltb (unruly 0 events) (length events))
 order-words events =
     record {
@@ -270,6 +287,7 @@ order-words events =
 
 -- ---- Row 15
 
+-- A run that comes to the end of its draws is not late, and every other run is.
 late-words : (r : Run) → Says (λ d. (d ≡ 0) × Late r) 0 (late r)
 late-words (going s) =
     plainly (late (going s))
@@ -280,13 +298,16 @@ late-words (refused n d) =
 
 -- ---- The tables
 
+-- A row that says that one number is below another.
 lower-words : (a b : ℕ) → Says (λ d. (d ≡ 0) × (a < b)) 0 (ltb a b)
 lower-words a b = plainly (ltb a b) (λ h. held-and-failed (ltb a b) (lt-ltb a b h)) (ltb-true a b)
 
+-- A row that says that two numbers are not the same.
 unlike-words : (a b : ℕ) → Says (λ d. (d ≡ 0) × (a ≡ b → ⊥)) 0 (not (eqb a b))
 unlike-words a b = plainly (not (eqb a b)) (λ h. held-and-failed (not (eqb a b)) (is-unlike a b h)) (unlike a b)
 
 module _ (job : List ℕ) where
+  -- Rows 1 to 5, and what comes behind them.
   with-job : (rows : List Row) (tests : List Test) → Agree rows tests → Agree (jobRows job ++ rows) (jobTests job ++ tests)
   with-job rows tests a =
       more (length-words job)

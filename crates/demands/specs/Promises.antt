@@ -1,5 +1,5 @@
 -- The form of every public promise: what a call answers, and what each lent buffer holds later, as functions of what was handed in.
--- Each promise of docs/PROMISES.md in that form.
+-- Below it, each public promise in that form.
 use Prim.Native.Nat.{ℕ, _+_, _*_}
 use mathlib.Core.Path.{_≡_}
 use mathlib.Core.List.{List, [], _∷_}
@@ -51,25 +51,30 @@ checkForCPromise job list ticks slots =
           ∷ [];
     }
 
--- The readers of jobs and lists lend nothing.
+-- The readers are lent no buffer. Reading a job finds its shape or its one refusal.
 abbrev pub readJobPromise : List ℕ → Promise JobReading
 readJobPromise job = record { answer = readJob job; buffers = [] }
 
+-- The symbol that a slot starts with.
 abbrev pub startingSymbolPromise : List ℕ → ℕ → Promise ℕ
 startingSymbolPromise job slot = record { answer = number16 job (starting-at + 2 * slot); buffers = [] }
 
+-- The symbol of a draw.
 abbrev pub drawSymbolPromise : List ℕ → ℕ → ℕ → Promise ℕ
 drawSymbolPromise job slots draw = record { answer = number16 job (draws-at slots + 2 * draw); buffers = [] }
 
+-- Reading the head of a list finds the number of its events, or that it is no list.
 abbrev pub readListPromise : List ℕ → Promise ListReading
 readListPromise list = record { answer = readList list; buffers = [] }
 
+-- Reading an event finds it, or too few bytes.
 abbrev pub readEventPromise : List ℕ → Promise EventReading
 readEventPromise part = record { answer = readEvent part; buffers = [] }
 
--- The writers of a list answer a number and leave the room with the bytes in their place.
+-- The writers answer a number and leave the room with their bytes in place: a list's head,
 abbrev pub putHeadPromise : ℕ → List ℕ → Promise ℕ
 putHeadPromise count room = record { answer = putNumber 0 head-size room; buffers = putHead count room ∷ [] }
 
+-- and an event by its number.
 abbrev pub putEventPromise : ℕ → Event → List ℕ → Promise ℕ
 putEventPromise index e room = record { answer = putNumber (event-at index) event-size room; buffers = putEvent index e room ∷ [] }

@@ -16,10 +16,11 @@ use Rattle.rules.specs.Plans.{last-plan, ruleOf, runPlan}
 use Rattle.rules.specs.Refusals.{due, follow}
 use Rattle.demands.specs.Fair.{eventTick, eventAt}
 
--- A row: its number, and the details with which it holds. Most rows hold with detail 0.
+-- A row: its number, and the details with which it holds.
 pub data Row : Type 1 where
   row : (number : ℕ) (holds : (detail : ℕ) → Type 0) → Row
 
+-- Most rows hold with detail 0.
 abbrev pub plain : ℕ → Type 0 → Row
 plain number holds = row number (λ detail. (detail ≡ 0) × holds)
 
@@ -95,11 +96,12 @@ pub data PlacesShort (draws ticks slots : ℕ) : Type 0 where
   few-ticks : ticks < draws → PlacesShort draws ticks slots
   few-slots : slots < draws → PlacesShort draws ticks slots
 
--- 9. An event's tick is over the limit, or not above the one before it: the lowest tick that an event may have is one above that.
+-- The lowest tick that an event may have: one above the tick of the event before it.
 abbrev pub lowest : List Event → ℕ → ℕ
 lowest events zero = 0
 lowest events (suc i) = eventTick (eventAt events i) + 1
 
+-- 9. An event's tick is over the limit, or not above the one before it.
 pub data OutOfOrder (events : List Event) (i : ℕ) : Type 0 where
   over-limit : last-tick < eventTick (eventAt events i) → OutOfOrder events i
   not-above : eventTick (eventAt events i) < lowest events i → OutOfOrder events i

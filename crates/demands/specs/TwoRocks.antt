@@ -5,7 +5,7 @@ use mathlib.Core.Path.{_≡_, refl}
 use mathlib.Core.List.{List, [], _∷_}
 use Rattle.rules.specs.Basics.{place}
 use Rattle.rules.specs.Job.{symbols}
-use Rattle.rules.specs.LoadList.{Event, event, eventsIn, eventsBytes, listBytes}
+use Rattle.rules.specs.LoadList.{event, eventsIn, eventsBytes, listBytes}
 use Rattle.rules.specs.Display.{Run, run, tick, beginning, happened}
 use Rattle.rules.specs.Refusals.{checked, due, unruly, doubled, answerOf, ticksOf, slotsOf}
 use Rattle.rules.specs.Worked.{symbolBytes, jobBytes, numbers, accepts, refuses}

@@ -1,1 +1,1 @@
-// The demands that an accepted check meets, said without a run. There is no code here: the definition stands in specs/, the theorem in proofs/.
+// The demands as theorems over the rules. There is no code here: what the demands speak of stands in specs/, the theorems in proofs/.
