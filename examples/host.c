@@ -1,0 +1,81 @@
+/* A small host: it plans a sheet, checks the list before anything is shown, and steps a display tick by tick.
+   Build it with the archive: cc -std=c99 -I include examples/host.c target/staticlib/libhost.a */
+#include "govahrin.h"
+#include <stdio.h>
+
+enum { SLOTS = 2, LOAD_TIME = 4, DRAWS = 4 };
+
+/* Slots with a buoy (1) and a light (2); drawn are buoy, light, rock awash (3), buoy. */
+static const uint8_t sheet[GOVAHRIN_JOB_SIZE(SLOTS, DRAWS)] = {0, 0, 0, 18, 1, SLOTS, 0, LOAD_TIME, 0, DRAWS, 0,
+                                                               1, 0, 2, 0, 1, 0,     2, 0,         3, 0,     1};
+static const char *const picture[] = {"nothing", "a buoy", "a light", "a rock awash"};
+
+/* What the check found out: when each draw happens, and from which slot. */
+struct times {
+    uint8_t ticks[GOVAHRIN_TICKS_ROOM(DRAWS)];
+    uint8_t slots[GOVAHRIN_SLOTS_ROOM(DRAWS)];
+};
+
+static uint32_t number(const uint8_t *at, unsigned bytes)
+{
+    uint32_t sum = 0;
+    while (bytes--) sum = sum * 256 + *at++;
+    return sum;
+}
+
+static void report(const char *what, govahrin_answer a)
+{
+    if (a.number)
+        printf("%s: refused %u %u\n", what, (unsigned)a.number, (unsigned)a.detail);
+    else
+        printf("%s: elapsed %u, waits %u, loads %u\n", what, (unsigned)a.elapsed, (unsigned)a.waits, (unsigned)a.loads);
+}
+
+/* A display knows slots, ticks and a list. It never looks at what it draws: that is why the list is checked first. */
+static void show(const uint8_t *list, const struct times *times, govahrin_answer a)
+{
+    uint32_t slots[SLOTS], tick, event = 0, draw = 0, begun = 0;
+    const uint8_t *load = NULL;
+    for (tick = 0; tick < SLOTS; tick++) slots[tick] = number(sheet + 10 + 2 * tick, 2);
+    for (tick = 0; tick < a.elapsed; tick++) {
+        printf("tick %u:", (unsigned)tick);
+        if (load && tick == begun + LOAD_TIME) {
+            slots[load[4]] = number(load + 5, 2);
+            printf(" slot %u has %s;", (unsigned)load[4], picture[slots[load[4]]]);
+            load = NULL;
+        }
+        if (event < a.loads && number(list + 7 + 7 * event, 4) == tick) {
+            load = list + 7 + 7 * event++;
+            begun = tick;
+            slots[load[4]] = 0;
+            printf(" slot %u begins to load;", (unsigned)load[4]);
+        }
+        if (number(times->ticks + 4 * draw, 4) == tick) {
+            printf(" draws slot %u, %s\n", (unsigned)times->slots[draw], picture[slots[times->slots[draw]]]);
+            draw++;
+        } else {
+            printf(" waits\n");
+        }
+    }
+}
+
+int main(void)
+{
+    uint8_t list[GOVAHRIN_PLAN_ROOM(DRAWS)];
+    struct times times;
+    govahrin_answer planned, checked;
+    planned = govahrin_plan(sheet, sizeof sheet, GOVAHRIN_CONSERVATIVE, list, sizeof list);
+    report("plan", planned);
+    if (planned.number) return 1;
+    checked = govahrin_check(sheet, sizeof sheet, list, GOVAHRIN_LIST_SIZE(planned.loads), times.ticks,
+                             sizeof times.ticks, times.slots, sizeof times.slots);
+    report("check", checked);
+    if (checked.number) return 1;
+    show(list, &times, checked);
+
+    list[10]--; /* the same list with its load one tick early: the light is gone before it is drawn */
+    checked = govahrin_check(sheet, sizeof sheet, list, GOVAHRIN_LIST_SIZE(planned.loads), times.ticks,
+                             sizeof times.ticks, times.slots, sizeof times.slots);
+    report("check, one tick early", checked);
+    return 0;
+}

@@ -1,0 +1,130 @@
+/* Govahrin for C and C++: plan the symbol loads of a bridge display, and check a load list before a display trusts it.
+   Link target/staticlib/libhost.a, which `rt staticlib host` makes, x86-64. This header is the manual.
+
+   A display holds chart symbols in k slots. Any other symbol comes off a slow card and takes F ticks to load into a slot.
+   A job says what is drawn, in which order; a load list says at which tick which symbol goes into which slot. The
+   display follows the list and never looks at the symbol, so a list that is wrong by one tick draws a wrong symbol.
+
+   THE JOB. Numbers are big-endian.
+
+       offset  bytes  what
+       0       4      length: the count of all bytes after it, 6 + 2k + 2n
+       4       1      version, 1
+       5       1      slots k, 1 to 64
+       6       2      load time F in ticks, 1 to 1,000
+       8       2      draws n, 0 to 4,096
+       10      2k     what each slot holds at the start: a symbol, 0 to 65534, or 65535 for a free slot
+       10+2k   2n     the symbols drawn, in order
+
+   THE LOAD LIST.
+
+       offset  bytes  what
+       0       4      length: the count of all bytes after it, 3 + 7m
+       4       1      version, 1
+       5       2      events m, 0 to 4,096
+       7       7m     the events: tick (4 bytes, 0 to 8,388,607, rising strictly), slot (1), symbol (2)
+
+   ONE TICK, while draws remain. First a load begun F ticks ago puts its symbol into its slot. Then, if the next event has
+   this tick, its load begins: what the slot held is gone at once. Then, if some slot holds the next draw's symbol, it is
+   drawn from there; if not, this tick is a wait.
+
+   AN EXAMPLE. Two slots with symbols 1 and 2, load time 4, draws 1 2 3 1:
+
+       static const uint8_t job[] = {0, 0, 0, 18, 1, 2, 0, 4, 0, 4, 0, 1, 0, 2, 0, 1, 0, 2, 0, 3, 0, 1};
+       uint8_t list[GOVAHRIN_PLAN_ROOM(4)];
+       govahrin_answer a = govahrin_plan(job, sizeof job, GOVAHRIN_CONSERVATIVE, list, sizeof list);
+       if (a.number == 0)
+           printf("%u ticks, %u of them waits\n", (unsigned)a.elapsed, (unsigned)a.waits);   8 ticks, 4 of them waits
+
+   examples/host.c is a whole host: it plans, checks, and steps a display tick by tick.
+
+   THREADS. The library has no state, allocates nothing and calls nothing of the host's; any number of threads may call
+   it at once, each with its own lent memory. Memory that a call may write must not overlap memory that it reads or other
+   memory that it may write. A null pointer is fine where its length is 0. */
+#ifndef GOVAHRIN_H
+#define GOVAHRIN_H
+
+#include <stddef.h>
+#include <stdint.h>
+
+#ifdef __cplusplus
+extern "C" {
+#endif
+
+/* What both functions answer. Accepted: number 0, detail 0 and the run's counts. Refused: the refusal's number and
+   detail, the counts 0, and every lent byte as it was before the call. */
+typedef struct {
+    uint32_t number;  /* 0, or why the call was refused: see the refusals below */
+    uint32_t detail;  /* the event or the draw that a refusal names, counted from 0; else 0 */
+    uint32_t elapsed; /* ticks until all draws are done; always n + waits */
+    uint32_t waits;   /* ticks in which nothing was drawn */
+    uint32_t loads;   /* loads begun; one may still be under way at the end */
+} govahrin_answer;
+
+/* The refusals. The first that applies is given: for a plan in the order 1 to 5, 6, 7, 15; for a check 1 to 5, 8, 7, 9,
+   then 10 to 14 as time meets them, and 10, 11, 12 for one event. Detail is 0 unless said otherwise. */
+enum {
+    GOVAHRIN_ACCEPTED = 0,
+    GOVAHRIN_JOB_LENGTH = 1,     /* the job has under 10 bytes, or its length is not the count of the bytes after it */
+    GOVAHRIN_JOB_VERSION = 2,    /* the job's version is not 1 */
+    GOVAHRIN_JOB_LIMITS = 3,     /* k, F or n is outside its limits */
+    GOVAHRIN_JOB_SIZE_WRONG = 4, /* the job's length is not 6 + 2k + 2n */
+    GOVAHRIN_JOB_SYMBOLS = 5,    /* a symbol stands in two starting slots, or 65535 is drawn */
+    GOVAHRIN_PLAN_NUMBER = 6,    /* the plan number is above 3 */
+    GOVAHRIN_ROOM = 7,           /* lent room is too short */
+    GOVAHRIN_LIST_BYTES = 8,     /* the list has under 7 bytes, a wrong length or version, or more than 4,096 events */
+    GOVAHRIN_EVENT_TICK = 9,     /* an event's tick is over 8,388,607 or not above the one before; detail: first such event */
+    GOVAHRIN_EVENT_BUSY = 10,    /* an event begins while a load is under way; detail: the event */
+    GOVAHRIN_EVENT_SLOT = 11,    /* an event's slot is k or more; detail: the event */
+    GOVAHRIN_EVENT_SYMBOL = 12,  /* an event's symbol is held by a slot, or is 65535; detail: the event */
+    GOVAHRIN_DRAW_NEVER = 13,    /* a draw's symbol is in no slot, none is under way, no event is left; detail: the draw */
+    GOVAHRIN_EVENT_LEFT = 14,    /* all draws are done and an event is left; detail: the first left */
+    GOVAHRIN_PLAN_TOO_LONG = 15  /* a plan's elapsed would pass 8,388,607; no job within the limits is so long */
+};
+
+/* The plans. */
+enum {
+    GOVAHRIN_AGGRESSIVE = 0,   /* loads the first missing symbol as soon as that costs no earlier draw its symbol */
+    GOVAHRIN_CONSERVATIVE = 1, /* the loads of opt, each as early as can be: no accepted list has fewer loads, and none
+                                  has less than half its elapsed */
+    GOVAHRIN_OPT = 2,          /* loads on demand, in place of the symbol whose next draw is furthest */
+    GOVAHRIN_LRU = 3           /* loads on demand, in place of the symbol drawn longest ago */
+};
+
+/* Sizes in bytes, for k slots, n draws and m events. */
+#define GOVAHRIN_JOB_SIZE(k, n) (10 + 2 * (size_t)(k) + 2 * (size_t)(n))
+#define GOVAHRIN_LIST_SIZE(m) (7 + 7 * (size_t)(m))
+#define GOVAHRIN_PLAN_ROOM(n) (7 + 7 * (size_t)(n))
+#define GOVAHRIN_TICKS_ROOM(n) (4 * (size_t)(n))
+#define GOVAHRIN_SLOTS_ROOM(n) ((size_t)(n))
+
+#define GOVAHRIN_MOST_SLOTS 64
+#define GOVAHRIN_MOST_LOAD_TIME 1000
+#define GOVAHRIN_MOST_DRAWS 4096
+#define GOVAHRIN_MOST_EVENTS 4096
+#define GOVAHRIN_LAST_TICK 8388607
+#define GOVAHRIN_FREE 65535
+
+/* Plans a job by one of the four plans.
+   job, job_len    the job's bytes; only read
+   plan            GOVAHRIN_AGGRESSIVE, GOVAHRIN_CONSERVATIVE, GOVAHRIN_OPT or GOVAHRIN_LRU
+   room, room_len  lent room of at least GOVAHRIN_PLAN_ROOM(n) bytes
+   Accepted: the load list stands in room from its first byte and has GOVAHRIN_LIST_SIZE(loads) bytes; the bytes behind
+   it are as they were. The counts are those that a check of the list answers. Refusals 1 to 7 and 15. */
+govahrin_answer govahrin_plan(const uint8_t *job, size_t job_len, uint32_t plan, uint8_t *room, size_t room_len);
+
+/* Checks a load list against a job: whoever made the list, every draw finds its symbol in a slot, or it is refused.
+   job, job_len      the job's bytes; only read
+   list, list_len    the list's bytes; only read
+   ticks, ticks_len  lent room of at least GOVAHRIN_TICKS_ROOM(n) bytes
+   slots, slots_len  lent room of at least GOVAHRIN_SLOTS_ROOM(n) bytes
+   Accepted: ticks has for each draw its tick, 4 big-endian bytes each, and slots the slot it is drawn from, a byte each;
+   the bytes behind them are as they were. Refusals 1 to 5 and 7 to 14. */
+govahrin_answer govahrin_check(const uint8_t *job, size_t job_len, const uint8_t *list, size_t list_len,
+                               uint8_t *ticks, size_t ticks_len, uint8_t *slots, size_t slots_len);
+
+#ifdef __cplusplus
+}
+#endif
+
+#endif

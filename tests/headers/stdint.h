@@ -1,0 +1,8 @@
+/* For the kit's compiler, which brings no headers: as much of stdint.h as our C programs use, on x86-64 Linux. */
+#ifndef GOVAHRIN_STDINT_H
+#define GOVAHRIN_STDINT_H
+typedef __UINT8_TYPE__ uint8_t;
+typedef __UINT16_TYPE__ uint16_t;
+typedef __UINT32_TYPE__ uint32_t;
+typedef __UINT64_TYPE__ uint64_t;
+#endif

@@ -1,0 +1,92 @@
+// Cases and answers as lines of text, in the form of tests/vectors: bytes in hexadecimal, `-` for none.
+use crate::rules::{check, list_bytes, plan, read_job, planned, Event, Refusal, Run, PLAN_NAMES};
+
+pub fn hex(bytes: &[u8]) -> String {
+    if bytes.is_empty() {
+        return "-".to_string();
+    }
+    bytes.iter().map(|byte| format!("{byte:02x}")).collect()
+}
+
+fn bytes(hex: &str) -> Vec<u8> {
+    if hex == "-" {
+        return vec![];
+    }
+    (0..hex.len()).step_by(2).map(|i| u8::from_str_radix(&hex[i..i + 2], 16).expect("two hexadecimal digits")).collect()
+}
+
+fn joined<T: ToString>(numbers: &[T]) -> String {
+    if numbers.is_empty() {
+        return "-".to_string();
+    }
+    numbers.iter().map(|number| number.to_string()).collect::<Vec<_>>().join(",")
+}
+
+fn refused(refusal: Refusal, rest: &str) -> String {
+    format!("{} {} 0 0 0 {rest}", refusal.number, refusal.detail)
+}
+
+fn counts(run: &Run) -> String {
+    format!("0 0 {} {} {}", run.elapsed, run.waits, run.loads)
+}
+
+pub fn plan_case(job: &[u8], plan: u32, room: usize) -> String {
+    format!("plan {} {plan} {room}", hex(job))
+}
+
+pub fn check_case(job: &[u8], list: &[u8], ticks: usize, slots: usize) -> String {
+    format!("check {} {} {ticks} {slots}", hex(job), hex(list))
+}
+
+/// The answer to one case: the whole line of a vector, `CASE => ANSWER`.
+pub fn answered(line: &str) -> String {
+    let case = line.split(" => ").next().unwrap().trim();
+    let words: Vec<&str> = case.split(' ').collect();
+    let size = |i: usize| words[i].parse::<usize>().expect("a size of lent room");
+    let answer = match words[0] {
+        "plan" => match plan(&bytes(words[1]), words[2].parse().expect("a plan number"), size(3)) {
+            Ok(run) => format!("{} {}", counts(&run), hex(&list_bytes(&run.events))),
+            Err(refusal) => refused(refusal, "-"),
+        },
+        "check" => match check(&bytes(words[1]), &bytes(words[2]), size(3), size(4)) {
+            Ok(run) => format!("{} {} {}", counts(&run), joined(&run.draw_ticks), joined(&run.draw_slots)),
+            Err(refusal) => refused(refusal, "- -"),
+        },
+        "summary" => summary(&bytes(words[1])),
+        word => panic!("a case begins with plan, check or summary, not with {word}"),
+    };
+    format!("{case} => {answer}")
+}
+
+/// The lines of the summary program, joined by `|`. It reads at most 8,331 bytes and judges a longer input by those.
+fn summary(input: &[u8]) -> String {
+    match read_job(&input[..input.len().min(8_331)]) {
+        Err(refusal) => format!("refused {} {}", refusal.number, refusal.detail),
+        Ok(job) => {
+            let line = |plan: usize| {
+                let run = planned(&job, plan as u32);
+                format!("{} {} {} {}", PLAN_NAMES[plan], run.elapsed, run.waits, run.loads)
+            };
+            (0..4).map(line).collect::<Vec<_>>().join("|")
+        }
+    }
+}
+
+/// A case in words, for a person who looks at one that failed.
+pub fn in_words(line: &str) -> String {
+    let words: Vec<&str> = line.split(" => ").next().unwrap().trim().split(' ').collect();
+    let job = match read_job(&bytes(words[1])) {
+        Ok(job) => format!("k {} F {} starts {:?} draws {:?}", job.starts.len(), job.load_time, job.starts, job.draws),
+        Err(refusal) => format!("a job refused with {}", refusal.number),
+    };
+    let list = if words[0] == "check" { format!("\n  list {}", events_in_words(&bytes(words[2]))) } else { String::new() };
+    format!("{}\n  {job}{list}", words[0])
+}
+
+fn events_in_words(list: &[u8]) -> String {
+    let number = |part: &[u8]| part.iter().fold(0u64, |sum, byte| sum * 256 + *byte as u64);
+    let event = |part: &[u8]| Event { tick: number(&part[0..4]), slot: part[4] as usize, symbol: number(&part[5..7]) as u16 };
+    let body = list.get(7..).unwrap_or(&[]);
+    let events: Vec<String> = body.chunks_exact(7).map(event).map(|e| format!("{}/{}/{}", e.tick, e.slot, e.symbol)).collect();
+    format!("{} bytes, as tick/slot/symbol: {}", list.len(), events.join(", "))
+}
