@@ -58,6 +58,7 @@ pub struct TickRecord {
 }
 
 // What a plan or a check answers: number 0 and the model's counts, or a refusal's number and detail and no counts.
+#[repr(C)]
 pub struct Answer {
     pub number: u32,
     pub detail: u32,

@@ -1,0 +1,41 @@
+-- Ticks as four bytes each: how many bytes they are, and one tick more behind those that stand in lent memory.
+use Prim.Native.Nat.{ℕ, suc, _+_, _*_, _<_, _≤_}
+use native.Mathlib.Omega.{arith}
+use native.Mathlib.Numerals.{add-one}
+use mathlib.Core.Path.{_≡_, refl, sym, ap, _∙_}
+use mathlib.Core.List.{List, [], _∷_, _++_, append-assoc}
+use lib.ListN.{length, getD, take, drop, length-append, length-drop}
+use lib.Seq.{take-suc, take-at, drop-append-add, drop-drop, length-take-le}
+use Rattle.rules.specs.Basics.{bytes32}
+use Rattle.rules.specs.Refusals.{tickBytes, lent}
+
+pub length-tickBytes : (l : List ℕ) → length (tickBytes l) ≡ 4 * length l
+unfolding tickBytes
+length-tickBytes [] = refl
+length-tickBytes (t ∷ l) = let later : length (tickBytes l) ≡ 4 * length l = length-tickBytes l in omega arith
+
+one-more : (l : List ℕ) (t : ℕ) → tickBytes (l ++ (t ∷ [])) ≡ tickBytes l ++ bytes32 t
+unfolding tickBytes
+one-more [] t = refl
+one-more (x ∷ l) t = ap (λ (r : List ℕ). bytes32 x ++ r) (one-more l t)
+
+-- What is written behind what was written is written with it.
+grown : (b new to : List ℕ) (n : ℕ) → length b ≡ n → take n (lent b to) ++ new ++ drop (n + length new) (lent b to) ≡ lent (b ++ new) to
+grown b new to n e =
+    rw (take-at b (drop (length b) to) n e, ← e, drop-append-add b (drop (length b) to) (length new), drop-drop (length new) (length b) to, length-append b new)
+
+module _ (from to : List ℕ) (i : ℕ) where
+  front : i ≤ length from → length (tickBytes (take i from)) ≡ 4 * i
+  front there = length-tickBytes (take i from) ∙ ap (λ (n : ℕ). 4 * n) (length-take-le i from there)
+
+  pub put-length : i ≤ length from → 4 * i ≤ length to → length (lent (tickBytes (take i from)) to) ≡ length to
+  put-length there here =
+      let e : length (tickBytes (take i from)) ≡ 4 * i = front there in
+      length-append (tickBytes (take i from)) _ ∙ rw (length-drop (length (tickBytes (take i from))) to) (omega arith)
+
+  pub put-more : i < length from
+      → take (4 * i) (lent (tickBytes (take i from)) to) ++ bytes32 (getD from i 0) ++ drop (4 * i + 4) (lent (tickBytes (take i from)) to)
+      ≡ lent (tickBytes (take (i + 1) from)) to
+  put-more there =
+      grown (tickBytes (take i from)) (bytes32 (getD from i 0)) to (4 * i) (front (omega arith))
+      ∙ rw (add-one, take-suc from i 0 there, one-more (take i from) (getD from i 0))

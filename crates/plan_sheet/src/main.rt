@@ -1,0 +1,37 @@
+// Writes the load list of a plan for a job on standard output. Arguments: the plan's name and the job's file. A refused job gets
+// the line of its refusal on standard error, and no list.
+use libc::STDERR_FILENO;
+use libc::STDOUT_FILENO;
+
+// The room is that of the longest list, of which 7 bytes and 7 for each load are written.
+fn write_list(job: &[u8], plan: u32) {
+    let mut room = [0u8; 28679];
+    let answer = planner::plan(job, plan, &mut room);
+    if answer.number != 0 {
+        report::say_refusal(STDERR_FILENO, answer.number, answer.detail);
+        return;
+    }
+    let end = io::count((7 + 7 * answer.loads as u64) as isize, &room);
+    if !io::write_all(STDOUT_FILENO, &room[..end]) {
+        os::fail(b"cannot write the list");
+    }
+}
+
+// A job has at most 8,330 bytes.
+fn main() {
+    let plan = plan_report::plan_argument(1);
+    if os::arg_count() != 3 || 3 < plan {
+        report::say(
+            STDERR_FILENO,
+            b"write: plan_sheet aggressive|conservative|opt|lru JOB\n",
+        );
+        return;
+    }
+    let mut job = [0u8; 8330];
+    let reading = report::read_argument(2, b"job", &mut job);
+    if !reading.whole {
+        return;
+    }
+    let count = reading.count;
+    write_list(&job[..count], plan);
+}

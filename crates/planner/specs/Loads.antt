@@ -1,0 +1,60 @@
+-- The loads of a run as the code holds them: a row for each of their four numbers.
+use Prim.Native.Nat.{ℕ, _+_, _*_, _≤_}
+use mathlib.Core.Path.{_≡_}
+use mathlib.Core.List.{List, map}
+use lib.ListN.{length, take, set}
+use Rattle.rules.specs.declared.Begun.{Begun}
+use Rattle.rules.specs.declared.Begun.the-variants.{Load, NoLoad}
+use Rattle.rules.specs.Job.{most-draws}
+use Rattle.rules.specs.LoadList.{head-size, event-size}
+use Rattle.rules.specs.Display.{Loaded, loaded}
+use Rattle.planner.specs.declared.loads.Loads.{Loads}
+
+abbrev pub loadTick : Loaded → ℕ
+loadTick (loaded t d q x) = t
+
+abbrev pub loadDraw : Loaded → ℕ
+loadDraw (loaded t d q x) = d
+
+abbrev pub loadSlot : Loaded → ℕ
+loadSlot (loaded t d q x) = q
+
+abbrev pub loadSymbol : Loaded → ℕ
+loadSymbol (loaded t d q x) = x
+
+-- Rows of as many places as a job has draws at most.
+pub record Whole (draws slots symbols : List ℕ) : Type 0 where
+  pub draws-room : length draws ≡ most-draws
+  pub slots-room : length slots ≡ most-draws
+  pub symbols-room : length symbols ≡ most-draws
+
+-- The loads of a list stand at the front of the rows: what conservative reads of them.
+pub record Lists (l : List Loaded) (count : ℕ) (draws slots symbols : List ℕ) : Type 0 where
+  pub many : length l ≡ count
+  pub for : map loadDraw l ≡ take count draws
+  pub into : map loadSlot l ≡ take count slots
+  pub what : map loadSymbol l ≡ take count symbols
+
+-- The same with the ticks.
+pub record Noted (l : List Loaded) (loads : Loads) : Type 0 where
+  pub lists : Lists l (loads .count) (loads .draws) (loads .slots) (loads .symbols)
+  pub at : map loadTick l ≡ take (loads .count) (loads .ticks)
+
+-- A row with what a tick brings for the load at a place: nothing where none begins.
+abbrev pub notedLoad : Begun → (ℕ → ℕ → ℕ) → ℕ → List ℕ → List ℕ
+notedLoad NoLoad what at row = row
+notedLoad (Load q x) what at row = set row at (what q x)
+
+-- The loads of a list as they are written: their ticks, slots and symbols stand at the front of the rows.
+pub record Written (l : List Loaded) (count : ℕ) (ticks slots symbols : List ℕ) : Type 0 where
+  pub many : length l ≡ count
+  pub at : map loadTick l ≡ take count ticks
+  pub into : map loadSlot l ≡ take count slots
+  pub what : map loadSymbol l ≡ take count symbols
+
+-- Room for a list of so many events, and rows that are long enough.
+pub record Fitting (count : ℕ) (room ticks slots symbols : List ℕ) : Type 0 where
+  pub enough : head-size + event-size * count ≤ length room
+  pub tick-row : count ≤ length ticks
+  pub slot-row : count ≤ length slots
+  pub symbol-row : count ≤ length symbols

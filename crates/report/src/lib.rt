@@ -1,0 +1,12 @@
+// What the programs share: saying numbers, answers and refusals on a descriptor, and reading a file that an argument names.
+// No program says or reads any of this in words of its own.
+mod file;
+mod line;
+mod words;
+
+pub use file::Reading;
+pub use file::read_argument;
+pub use line::say;
+pub use line::say_number;
+pub use line::say_refusal;
+pub use words::say_words;

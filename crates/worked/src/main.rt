@@ -1,0 +1,20 @@
+// The worked cases of document 01, built in: checks and plans of its rows, every edge that it names, a case for each refusal
+// number, and the largest job. Each is a line, and `stdout` has what every line must be.
+mod check_case;
+mod checks;
+mod make;
+mod plan_case;
+mod plans;
+
+fn main() {
+    checks::rows();
+    checks::edges();
+    checks::refused_jobs();
+    checks::refused_lists();
+    checks::refused_runs();
+    checks::short_rooms();
+    plans::rows();
+    plans::refused_jobs();
+    plans::refused_calls();
+    plans::largest();
+}

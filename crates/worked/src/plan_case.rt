@@ -1,0 +1,45 @@
+// One case of a plan: its name, the five numbers of the answer and, where the job is planned, the length of the list in the room.
+use crate::check_case::say_answer;
+use libc::STDOUT_FILENO;
+use report::say;
+use report::say_number;
+use rules::ListReading;
+
+// The length is that of the list that stands in these bytes, as the check would read it.
+fn say_list(list: &[u8]) {
+    let head = sheet::read_list(list);
+    let ListReading::Listed(count) = head else {
+        say(STDOUT_FILENO, b"; no list");
+        return;
+    };
+    say(STDOUT_FILENO, b"; a list of");
+    say_number(STDOUT_FILENO, 7 + 7 * count as u32);
+    say(STDOUT_FILENO, b" bytes");
+}
+
+pub fn plan_in(room: &mut [u8], name: &[u8], job: &[u8], plan: u32) {
+    let answer = planner::plan(job, plan, room);
+    say_answer(name, answer);
+    if answer.number == 0 {
+        let end = io::count((7 + 7 * answer.loads as u64) as isize, room);
+        say_list(&room[..end]);
+    }
+    say(STDOUT_FILENO, b"\n");
+}
+
+// The same in the room of the longest list.
+pub fn plan_job(name: &[u8], job: &[u8], plan: u32) {
+    let mut room = [0u8; 28679];
+    plan_in(&mut room, name, job, plan);
+}
+
+pub fn plan_by_all(name: &[u8], job: &[u8]) {
+    say(STDOUT_FILENO, name);
+    plan_job(b", aggressive", job, 0);
+    say(STDOUT_FILENO, name);
+    plan_job(b", conservative", job, 1);
+    say(STDOUT_FILENO, name);
+    plan_job(b", opt", job, 2);
+    say(STDOUT_FILENO, name);
+    plan_job(b", lru", job, 3);
+}
