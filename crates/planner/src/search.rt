@@ -19,7 +19,7 @@ pub fn furthest(slots: &[u16], row: &[u16]) -> u8
     let mut slot: u8 = 0;
     while (slot as usize) < slots.len() {
         let symbol = slots[slot as usize];
-        let mut at = 0;
+        let mut at: usize = 0;
         let rank = loop {
             if symbol == FREE {
                 break row.len() + 1;
