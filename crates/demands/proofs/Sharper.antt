@@ -67,7 +67,7 @@ pub plan-loads-few : (job : List ℕ) (plan room : ℕ) → answerOf (planned jo
 plan-loads-few job plan room plan-accepted =
     let (taken, known, enough) = plan-accepts job plan room .0 plan-accepted in
     let d : Done (jobOf job) (ruleOf (jobOf job) plan) Any = plan-done (jobOf job) (proper job _ taken) plan in
-    rw (planned-done job (shapeOf job) plan room taken known enough d) (d .few, d .prompt)
+    rw (planned-done job (shapeOf job) plan room taken known enough d) (d .few, d .brief)
 
 -- A plan never says that it would ask again later.
 always-done : (job : Job) (plan : ℕ) (s : State) → ruleOf job plan .done s ≡ true

@@ -89,7 +89,7 @@ module _ (job : Job) (good : Proper job) (rule : Rule) (t : ℕ) (s : State) (ra
       let (ended, all, least) = ended-least job good rule t s ran over in
       let same : c .last .loads ≡ length (missesOf job) = c .kept .count in
       let fewer : c .last .loads ≤ ended = omega arith in
-      let waits : c .last .waits ≤ job .time * c .last .loads = c .prompt in
+      let waits : c .last .waits ≤ job .time * c .last .loads = c .brief in
       let whole : c .last .tick ≡ length (job .draws) + c .last .waits = c .whole in
       let product : job .time * c .last .loads ≤ job .time * ended = mul-le-mul-left (job .time) fewer in
       let own : job .time * ended ≤ s .tick = ended-ticks job rule good t s ran ended all in

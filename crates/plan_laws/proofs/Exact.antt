@@ -106,5 +106,5 @@ module _ (job : Job) (proper : Proper job) where
       let c = conservative-done job proper in
       let o = opt-done job proper in
       let same : c .last .loads ≡ length (missesOf job) = c .kept .count in
-      let prompt : c .last .waits ≤ job .time * length (missesOf job) = rw same at (c .prompt) in
+      let brief : c .last .waits ≤ job .time * length (missesOf job) = rw same at (c .brief) in
       (omega (arith, c .whole, o .whole, opt-waits), same ∙ sym opt-count)

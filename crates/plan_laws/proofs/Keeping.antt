@@ -28,7 +28,7 @@ pub record Done (job : Job) (rule : Rule) (P : State → Type 0) : Type 0 where
   pub ran : runPlan job rule ≡ going last
   pub over : last .rest ≡ []
   pub few : last .loads ≤ length (job .draws)
-  pub prompt : last .waits ≤ job .time * last .loads
+  pub brief : last .waits ≤ job .time * last .loads
   pub whole : last .tick ≡ length (job .draws) + last .waits
   pub listed : length (last .begun) ≡ last .loads
   pub replays : inOrder job (map eventOf (last .begun)) ≡ going last
@@ -42,7 +42,7 @@ done-with job rule Q d also =
       ran = d .ran;
       over = d .over;
       few = d .few;
-      prompt = d .prompt;
+      brief = d .brief;
       whole = d .whole;
       listed = d .listed;
       replays = d .replays;
@@ -86,7 +86,7 @@ module _ (job : Job) (proper : Proper job) (asks : State → Begun) (P : State �
       let (s, e) = never-refused last-tick in
       let here : SaneState job s = sane job (asking asks) proper last-tick s e in
       let loads : s .loads ≤ length (job .draws) = few s here (holds last-tick s e) in
-      let prompt : s .waits ≤ job .time * s .loads = waits-few job asks (proper .some-time) last-tick s e in
+      let brief : s .waits ≤ job .time * s .loads = waits-few job asks (proper .some-time) last-tick s e in
       let counts = counted job (asking asks) proper last-tick s e in
       let drawn : s .next ≤ length (job .draws) = here .within in
       let limit : length (job .draws) ≤ most-draws = proper .few-draws in
@@ -103,7 +103,7 @@ module _ (job : Job) (proper : Proper job) (asks : State → Begun) (P : State �
         ran = e;
         over = over;
         few = loads;
-        prompt = prompt;
+        brief = brief;
         whole = elapsed job (asking asks) proper last-tick s e over;
         listed = counts .begun-all;
         replays = in-order job (asking asks) last-tick s e over (omega arith) (omega arith);
