@@ -1,11 +1,10 @@
 -- The order of a check's refusals, one test at a time: what the definition answers once a reading or a test is known.
 use Prim.Native.Nat.{ℕ, _+_, _*_, _-_, _<_, _≤_}
 use native.Mathlib.Omega.{arith}
-use mathlib.Core.Path.{_≡_, refl, sym, ap, _∙_}
+use mathlib.Core.Path.{_≡_, ap, _∙_}
 use mathlib.Core.Bool.{true, false}
 use mathlib.Core.List.{List}
 use lib.ListN.{length, drop}
-use lib.Dec.{eqb}
 use borrow.Author.Tests.{lt-ltb, le-ltb, ne-eqb, ltb-false, eqb-true, not-false}
 use Rattle.rules.specs.declared.Answer.{Answer}
 use Rattle.rules.specs.declared.JobReading.the-variants.{Taken, Refused}
@@ -13,12 +12,12 @@ use Rattle.rules.specs.declared.ListReading.the-variants.{Listed, Unreadable}
 use Rattle.rules.specs.declared.Shape.{Shape}
 use Rattle.rules.specs.Basics.{number32}
 use Rattle.rules.specs.Job.{shapeOf, startingOf, drawsOf, jobOf}
-use Rattle.rules.specs.LoadList.{Event, head-size, event-size, countOf, eventsIn}
+use Rattle.rules.specs.LoadList.{Event, head-size, countOf, eventsIn}
 use Rattle.rules.specs.Display.{Run, refused}
 use Rattle.rules.specs.Refusals.{badList, badJobLength, badJobVersion, badLimits, badJobSize, badSymbols, readJob, readList, unruly, follows, checked, answerOf, ticksOf, slotsOf, lent}
 use Rattle.laws.proofs.Cases.{by-test, neither}
 use Rattle.laws.proofs.Symbols.{length-symbols}
-use Rattle.laws.proofs.Jobs.{Passed, passed}
+use Rattle.laws.proofs.Jobs.{passed}
 use Rattle.laws.proofs.Events.{length-eventsIn}
 use Rattle.checker.specs.Follow.{Sized}
 

@@ -1,17 +1,16 @@
 -- The run along a list, tick by tick: what the loop of the code keeps, and where it ends.
-use Prim.Native.Nat.{ℕ, zero, suc, _+_, _-_, _≤_, _<_}
+use Prim.Native.Nat.{ℕ, suc, _+_, _-_, _≤_, _<_}
 use native.Mathlib.Omega.{arith}
 use native.Mathlib.Numerals.{add-one}
 use mathlib.Core.Path.{_≡_, refl, sym, ap, _∙_}
 use mathlib.Core.Bool.{true, false}
-use mathlib.Core.List.{List, [], _∷_, _++_, map, map-append}
-use lib.ListN.{length, take, drop, set, drop-of-length-le, length-drop, length-set}
+use mathlib.Core.List.{List, [], _∷_, map, map-append}
+use lib.ListN.{length, take, drop, drop-of-length-le, length-set}
 use lib.Seq.{drop-cons, drop-drop, take-suc-set}
 use Rattle.rules.specs.declared.Begun.{Begun}
 use Rattle.rules.specs.declared.Begun.the-variants.{Load, NoLoad}
 use Rattle.rules.specs.declared.Happening.{Happening}
 use Rattle.rules.specs.declared.Happening.the-variants.{Draw, Wait}
-use Rattle.rules.specs.declared.Loading.the-variants.{Idle}
 use Rattle.rules.specs.declared.TickRecord.{TickRecord}
 use Rattle.rules.specs.Job.{Job}
 use Rattle.rules.specs.LoadList.{Event}

@@ -13,7 +13,7 @@ use Rattle.rules.specs.declared.Happening.{Happening}
 use Rattle.rules.specs.declared.Happening.the-variants.{Draw, Wait}
 use Rattle.rules.specs.Basics.{place, stands}
 use Rattle.rules.specs.Job.{Job}
-use Rattle.rules.specs.Display.{State, Run, drawn, going, refused, then, begin, beginning, loadNumber, causeOf, happeningOf, happened, recordOf, stuck, moved}
+use Rattle.rules.specs.Display.{State, drawn, going, begin, beginning, loadNumber, causeOf, happeningOf, happened, recordOf, stuck, moved}
 use Rattle.display.specs.declared.state.Display.{Display}
 use Rattle.display.specs.declared.tick.Outcome.{Outcome}
 use Rattle.display.specs.declared.tick.Outcome.the-variants.{Went, Refused}

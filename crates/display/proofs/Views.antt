@@ -1,9 +1,8 @@
 -- The moves of the code's state are those of the rules' state, seen through `view`.
 use Prim.Native.Nat.{ℕ, zero, suc, _-_}
 use native.Mathlib.Omega.{arith}
-use mathlib.Core.Path.{_≡_, refl, sym, ap, _∙_}
-use lib.ListN.{take, set}
-use Rattle.rules.specs.declared.Loading.{Loading}
+use mathlib.Core.Path.{_≡_, refl}
+use lib.ListN.{set}
 use Rattle.rules.specs.declared.Loading.the-variants.{Idle, Under}
 use Rattle.rules.specs.Display.{land}
 use Rattle.laws.proofs.Places.{take-set}

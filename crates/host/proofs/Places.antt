@@ -10,7 +10,7 @@ use lib.Dec.{eqb, ltb}
 use borrow.Author.Tests.{lt-ltb, le-ltb, ltb-true, ltb-false}
 use Rattle.rules.specs.declared.Answer.{Answer}
 use Rattle.rules.specs.Job.{most-draws, shapeOf, drawsOf, jobOf}
-use Rattle.rules.specs.Display.{State, Run, going, refused}
+use Rattle.rules.specs.Display.{Run, going, refused}
 use Rattle.rules.specs.LoadList.{eventsOf}
 use Rattle.rules.specs.Refusals.{readJob, jobNumber, follow, patience, checked, checkedForC, answerOf, ticksOf, slotsOf, tickOf, tickBytes, lent}
 use Rattle.laws.proofs.Cases.{by-test}

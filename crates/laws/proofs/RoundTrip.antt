@@ -1,13 +1,13 @@
 -- What the writer makes of a list of events reads back as those events, and what it makes are bytes.
-use Prim.Native.Nat.{ℕ, zero, suc, _+_, _*_, _-_, _/_, _%_, _<_, _≤_}
+use Prim.Native.Nat.{ℕ, suc, _+_, _*_, _-_, _/_, _%_, _<_, _≤_}
 use native.Mathlib.Omega.{arith}
-use mathlib.Core.Path.{_≡_, refl, sym, ap, _∙_}
+use mathlib.Core.Path.{_≡_, refl}
 use mathlib.Core.List.{List, [], _∷_, _++_, append-nil}
-use lib.ListN.{length, getD, drop}
+use lib.ListN.{length}
 use borrow.Author.Tests.{le-ltb, eq-eqb}
 use Rattle.rules.specs.declared.ListReading.the-variants.{Listed}
 use Rattle.rules.specs.Basics.{number16, number32, bytes16, bytes32}
-use Rattle.rules.specs.LoadList.{Event, event, most-events, eventsIn, eventsOf, eventBytes, headBytes, eventsBytes, listBytes}
+use Rattle.rules.specs.LoadList.{Event, event, most-events, eventsIn, eventsOf, eventsBytes, listBytes}
 use Rattle.rules.specs.Refusals.{readList}
 
 -- A number taken apart into four bytes, or two, and put together again.

@@ -1,16 +1,14 @@
 -- The loads of a list read from the rows that hold them, and noted in these rows one by one.
-use Prim.Native.Nat.{ℕ, zero, suc, _+_, _<_, _≤_}
+use Prim.Native.Nat.{ℕ, zero, suc, _<_, _≤_}
 use native.Mathlib.Omega.{arith}
-use native.Mathlib.Numerals.{add-one}
 use mathlib.Core.Path.{_≡_, refl, sym, ap, _∙_}
-use mathlib.Core.List.{List, [], _∷_, _++_, map}
-use lib.ListN.{length, getD, take, drop, set, drop-of-length-le, length-set}
-use lib.Seq.{drop-cons, getD-take, set-out, take-suc-set}
+use mathlib.Core.List.{List, [], _∷_, map}
+use lib.ListN.{length, getD, take, drop, set, drop-of-length-le}
+use lib.Seq.{drop-cons, getD-take, set-out}
 use Rattle.rules.specs.declared.Begun.{Begun}
 use Rattle.rules.specs.declared.Begun.the-variants.{Load, NoLoad}
 use Rattle.rules.specs.Display.{State, Loaded, loaded}
 use Rattle.rules.specs.Plans.{earliest, earliestAt}
-use Rattle.laws.proofs.Rows.{map-snoc}
 use Rattle.planner.specs.Loads.{Lists, loadDraw, loadSlot, loadSymbol, notedLoad}
 
 getD-map : {A : Type 0} (f : A → ℕ) (l : List A) (i : ℕ) (a : A) → i < length l → f (getD l i a) ≡ getD (map f l) i 0

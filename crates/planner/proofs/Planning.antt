@@ -3,16 +3,16 @@ use Prim.Native.Nat.{ℕ, _+_, _*_, _<_, _≤_}
 use native.Mathlib.Omega.{arith}
 use mathlib.Core.Path.{_≡_, refl, sym, ap, _∙_}
 use mathlib.Core.Bool.{Bool, true, false, cond}
-use mathlib.Core.List.{List, [], map}
+use mathlib.Core.List.{List, []}
 use lib.ListN.{length, take, drop, length-take}
 use borrow.Author.Tests.{lt-ltb, le-ltb, ne-eqb}
 use Rattle.rules.specs.declared.JobReading.the-variants.{Taken, Refused}
 use Rattle.rules.specs.declared.Shape.{Shape}
-use Rattle.rules.specs.Job.{Job, symbols, shapeOf, startingOf, drawsOf, draws-at, jobOf, most-slots, most-draws}
+use Rattle.rules.specs.Job.{symbols, shapeOf, startingOf, drawsOf, draws-at, jobOf, most-slots, most-draws}
 use Rattle.rules.specs.LoadList.{head-size, event-size}
-use Rattle.rules.specs.Display.{State, Run, Loaded, going, refused, finished}
+use Rattle.rules.specs.Display.{State, Run, going, refused, finished}
 use Rattle.rules.specs.Plans.{runPlan, begunIn, ruleOf, last-plan}
-use Rattle.rules.specs.Refusals.{readJob, jobNumber, badJobLength, badJobVersion, badLimits, badJobSize, badSymbols, inTime, planned, writtenBy, lent}
+use Rattle.rules.specs.Refusals.{readJob, badJobLength, badJobVersion, badLimits, badJobSize, badSymbols, inTime, planned, writtenBy, lent}
 use Rattle.laws.proofs.Cases.{by-test}
 use Rattle.laws.proofs.Jobs.{Proper, proper, passed}
 use Rattle.laws.proofs.Symbols.{length-symbols}

@@ -2,7 +2,7 @@
 use Prim.Native.Nat.{ℕ, zero, suc, _+_, _<_, _≤_, max}
 use native.Mathlib.Omega.{arith}
 use native.Mathlib.Numerals.{add-one}
-use mathlib.Core.Path.{_≡_, refl, sym, ap, _∙_}
+use mathlib.Core.Path.{_≡_, refl, ap, _∙_}
 use mathlib.Core.Bool.{true, false, cond}
 use mathlib.Core.List.{List, [], _∷_, map}
 use lib.ListN.{length, getD, drop, length-map, drop-of-length-le}
@@ -13,8 +13,7 @@ use Rattle.rules.specs.Basics.{place, stands}
 use Rattle.rules.specs.Job.{free}
 use Rattle.rules.specs.Plans.{rank, greatest, furthest, missing}
 use Rattle.laws.proofs.Cases.{by-test}
-use Rattle.laws.proofs.Places.{place-here, place-further, place-past}
-use Rattle.laws.proofs.Search.{place-within}
+use Rattle.laws.proofs.Places.{place-here, place-past}
 
 -- ---- The furthest slot
 

@@ -1,99 +1,40 @@
 -- A tick of the code by a plan is a tick of the rules by it.
 use Prim.Native.Nat.{ℕ, _+_, _*_, _<_}
-use native.Mathlib.Omega.{arith}
 use mathlib.Core.Path.{_≡_, refl, sym, ap, _∙_}
 use mathlib.Core.Bool.{true}
-use mathlib.Core.List.{List, []}
+use mathlib.Core.List.{List}
 use lib.ListN.{getD, drop}
-use lib.Seq.{getD-drop}
 use Rattle.rules.specs.declared.Begun.{Begun}
-use Rattle.rules.specs.declared.Begun.the-variants.{Load, NoLoad}
-use Rattle.rules.specs.declared.TickRecord.{TickRecord}
 use Rattle.rules.specs.Basics.{number16}
-use Rattle.rules.specs.Job.{Job, shapeOf, drawsOf, draws-at, jobOf}
-use Rattle.rules.specs.Display.{State, going, then, land, beginning, happened, recordOf, awaited, tick}
+use Rattle.rules.specs.Job.{shapeOf, drawsOf, draws-at, jobOf}
+use Rattle.rules.specs.Display.{State, then, land, beginning, happened, recordOf, awaited, tick}
 use Rattle.rules.specs.Plans.{asking}
-use Rattle.laws.proofs.Symbols.{symbol-at, number16-drop}
 use Rattle.display.specs.declared.state.Display.{Display}
-use Rattle.display.specs.declared.tick.Outcome.{Outcome}
-use Rattle.display.specs.declared.tick.Outcome.the-variants.{Went, Refused}
 use Rattle.display.specs.declared.tick.Ticked.{Ticked}
-use Rattle.display.specs.View.{Beside, view, besideBegun, besideMade, onward}
-use Rattle.display.specs.Tick.{Room, Advanced, leads, counted}
-use Rattle.display.proofs.Ticks.{later-counts, same-made}
-use Rattle.planner.specs.Asks.{rowOf}
+use Rattle.display.specs.View.{Beside, view, onward}
+use Rattle.display.specs.Tick.{Advanced}
+use Rattle.display.proofs.Landed.{same-onward, same-leads, same-counts, awaited-read, landed-tick, landed-next, landed-waits, landed-loads}
 use Rattle.planner.specs.Runs.{Ticks}
 
--- What goes on record beside the display is the same seen from the display before landing and from the landed one.
-same-begun : (d l : Display) (asked : Begun) (h : Beside) → l .tick ≡ d .tick → l .next ≡ d .next → besideBegun d asked h ≡ besideBegun l asked h
-same-begun d l NoLoad h t n = refl
-same-begun d l (Load q x) h t n = rw (t, n)
-
-same-onward : (d l : Display) (tick : TickRecord) (h : Beside) → l .tick ≡ d .tick → l .next ≡ d .next → onward d tick h ≡ onward l tick h
-same-onward d l tick h t n =
-    ap (besideMade d (tick .happening)) (same-begun d l (tick .begun) h t n)
-    ∙ sym (same-made d l (tick .happening) (besideBegun l (tick .begun) h) t)
-
-same-leads : (k : ℕ) (f g : TickRecord → Beside) (o : Outcome) (later : Display) → ((t : TickRecord) → f t ≡ g t) → leads k f o later ≡ leads k g o later
-same-leads k f g (Went tick) later e = ap (λ (h : Beside). going (view k h later)) (e tick)
-same-leads k f g (Refused number detail) later e = refl
-
-same-counts : (o : Outcome) (d l later : Display) → l .tick ≡ d .tick → l .next ≡ d .next → l .waits ≡ d .waits → l .loads ≡ d .loads
-    → counted 1 o l later → counted 1 o d later
-same-counts (Went tick) d l later t n w m counts = later-counts 0 1 (tick .happening) d l later t n w (omega arith) counts
-same-counts (Refused number detail) d l later t n w m counts = tt
-
--- The symbol that is awaited, read from the job's bytes.
-pub awaited-read : (job : List ℕ) (next : ℕ) (rest : List ℕ) → next < shapeOf job .draws → rest ≡ drop next (drawsOf job)
-    → getD rest 0 0 ≡ number16 job (draws-at (shapeOf job .slots) + 2 * next)
-awaited-read job next rest h e =
-    let there : next + 0 ≡ next = omega arith in
-    ap (λ (l : List ℕ). getD l 0 0) e
-    ∙ rw (getD-drop, there, symbol-at (shapeOf job .draws) (drop (draws-at (shapeOf job .slots)) job) next h, number16-drop)
-
--- A landed display differs from the one before in its slots and its loader alone.
-module _ (d l : Display) (lands : (k : ℕ) (h : Beside) → view k h l ≡ land (view k h d)) where
-  none : Beside
-  none = record { rest = []; made = []; begun = [] }
-
-  pub landed-tick : l .tick ≡ d .tick
-  landed-tick = ap (λ (s : State). s .tick) (lands 0 none)
-
-  pub landed-next : l .next ≡ d .next
-  landed-next = ap (λ (s : State). s .next) (lands 0 none)
-
-  pub landed-waits : l .waits ≡ d .waits
-  landed-waits = ap (λ (s : State). s .waits) (lands 0 none)
-
-  pub landed-loads : l .loads ≡ d .loads
-  landed-loads = ap (λ (s : State). s .loads) (lands 0 none)
-
-  pub landed-room : Room d → Room l
-  landed-room room =
-      let tick′ : l .tick ≡ d .tick = landed-tick in
-      let next′ : l .next ≡ d .next = landed-next in
-      let waits′ : l .waits ≡ d .waits = landed-waits in
-      record { tick = omega arith; next = omega arith; waits = omega arith }
-
-  -- A tick by a rule that is never waited for: land, ask what the rule asks in the landed state, advance.
-  pub ticked : (job : List ℕ) (asks : State → Begun) (asked : Begun) (symbol : ℕ) (r : Ticked)
-      → symbol ≡ number16 job (draws-at (shapeOf job .slots) + 2 * l .next)
-      → d .next < shapeOf job .draws
-      → ((h : Beside) → h .rest ≡ drop (l .next) (drawsOf job) → awaited (view (shapeOf job .slots) h l) ≡ symbol
-      → asked ≡ asks (view (shapeOf job .slots) h l))
-      → Advanced (shapeOf job .slots) (shapeOf job .time) l asked symbol true r
-      → Ticks (jobOf job) (asking asks) d r
-  unfolding tick
-  ticked job asks asked symbol r read within ask advanced =
-      let k : ℕ = shapeOf job .slots in
-      record {
-        counts = same-counts (r .outcome) d l (r .display) landed-tick landed-next landed-waits landed-loads (advanced .counts);
-        run = λ h e.
-            let awaits : getD (h .rest) 0 0 ≡ symbol = awaited-read job (d .next) (h .rest) within e ∙ sym (read ∙ rw landed-next) in
-            same-leads k (λ t. onward d t h) (λ t. onward l t h) (r .outcome) (r .display) (λ t. same-onward d l t h landed-tick landed-next)
-            ∙ advanced .run h (jobOf job) awaits refl refl
-            ∙ ap (λ (s : State). then (beginning (jobOf job) asked s) (λ b. happened (recordOf asked b .happening) true b)) (lands k h)
-            ∙ ap
-            (λ (x : Begun). then (beginning (jobOf job) x (land (view k h d))) (λ b. happened (recordOf x b .happening) true b))
-            (ask h (e ∙ rw landed-next) awaits ∙ ap asks (lands k h));
-      }
+-- A tick by a rule that is never waited for: land, ask what the rule asks in the landed state, advance.
+pub ticked : (d l : Display) (lands : (k : ℕ) (h : Beside) → view k h l ≡ land (view k h d)) (job : List ℕ) (asks : State → Begun) (asked : Begun) (symbol : ℕ) (r : Ticked)
+    → symbol ≡ number16 job (draws-at (shapeOf job .slots) + 2 * l .next)
+    → d .next < shapeOf job .draws
+    → ((h : Beside) → h .rest ≡ drop (l .next) (drawsOf job) → awaited (view (shapeOf job .slots) h l) ≡ symbol
+    → asked ≡ asks (view (shapeOf job .slots) h l))
+    → Advanced (shapeOf job .slots) (shapeOf job .time) l asked symbol true r
+    → Ticks (jobOf job) (asking asks) d r
+unfolding tick
+ticked d l lands job asks asked symbol r read within ask advanced =
+    let k : ℕ = shapeOf job .slots in
+    record {
+      counts = same-counts (r .outcome) d l (r .display) (landed-tick d l lands) (landed-next d l lands) (landed-waits d l lands) (landed-loads d l lands) (advanced .counts);
+      run = λ h e.
+          let awaits : getD (h .rest) 0 0 ≡ symbol = awaited-read job (d .next) (h .rest) within e ∙ sym (read ∙ rw (landed-next d l lands)) in
+          same-leads k (λ t. onward d t h) (λ t. onward l t h) (r .outcome) (r .display) (λ t. same-onward d l t h (landed-tick d l lands) (landed-next d l lands))
+          ∙ advanced .run h (jobOf job) awaits refl refl
+          ∙ ap (λ (s : State). then (beginning (jobOf job) asked s) (λ b. happened (recordOf asked b .happening) true b)) (lands k h)
+          ∙ ap
+          (λ (x : Begun). then (beginning (jobOf job) x (land (view k h d))) (λ b. happened (recordOf x b .happening) true b))
+          (ask h (e ∙ rw (landed-next d l lands)) awaits ∙ ap asks (lands k h));
+    }

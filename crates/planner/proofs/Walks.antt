@@ -4,8 +4,8 @@ use native.Mathlib.Omega.{arith}
 use native.Mathlib.Numerals.{add-one}
 use mathlib.Core.Path.{_≡_, refl, sym, ap, _∙_}
 use mathlib.Core.Bool.{true, false, cond}
-use mathlib.Core.List.{List, [], _∷_, _++_, map}
-use lib.ListN.{length, take, drop, set, drop-of-length-le, length-drop, length-set}
+use mathlib.Core.List.{List, [], map}
+use lib.ListN.{length, take, drop, drop-of-length-le, length-set}
 use lib.Seq.{drop-cons, drop-drop, take-suc-set}
 use lib.Dec.{leb}
 use borrow.Author.Tests.{le-leb, lt-leb}
@@ -26,15 +26,13 @@ use Rattle.laws.proofs.Runs.{run-finished, run-unfinished}
 use Rattle.sheet.specs.Row.{row64}
 use Rattle.sheet.proofs.Rows.{take-row}
 use Rattle.display.specs.declared.state.Display.{Display}
-use Rattle.display.specs.declared.tick.Outcome.{Outcome}
 use Rattle.display.specs.declared.tick.Outcome.the-variants.{Went, Refused}
 use Rattle.display.specs.declared.tick.Ticked.{Ticked}
 use Rattle.display.specs.View.{Beside, view, besideBegun, besideMade, onward}
-use Rattle.display.specs.Tick.{Room, Counted, leads, counted, nextAfter}
+use Rattle.display.specs.Tick.{Counted, nextAfter}
 use Rattle.planner.specs.declared.ask.Order.{Order}
-use Rattle.planner.specs.declared.loads.Loads.{Loads}
 use Rattle.planner.specs.Asks.{orderAsks, asksBy}
-use Rattle.planner.specs.Loads.{Whole, Lists, Noted, loadTick, loadDraw, loadSlot, loadSymbol, notedLoad}
+use Rattle.planner.specs.Loads.{Whole, Noted, loadTick, loadDraw, loadSlot, loadSymbol, notedLoad}
 use Rattle.planner.specs.Runs.{Ticks}
 
 -- ---- The rule

@@ -1,6 +1,6 @@
 -- The refusals, their order, and what a plan and a check answer and leave in lent memory. (Document 01, "Refusal numbers")
-use Prim.Native.Nat.{ℕ, zero, suc, _+_, _*_, _-_, _/_}
-use mathlib.Core.Bool.{Bool, true, false, cond, not, _&&_, _||_}
+use Prim.Native.Nat.{ℕ, suc, _+_, _*_, _-_, _/_}
+use mathlib.Core.Bool.{Bool, false, cond, not, _&&_, _||_}
 use mathlib.Core.List.{List, [], _∷_, _++_, map}
 use lib.ListN.{length, getD, drop}
 use lib.Dec.{eqb, ltb, leb}
@@ -16,7 +16,7 @@ use Rattle.rules.specs.Basics.{stands, number32, bytes32}
 use Rattle.rules.specs.Job.{Job, free, most-slots, most-time, most-draws, shapeOf, startingOf, drawsOf, jobOf}
 use Rattle.rules.specs.LoadList.{Event, event, most-events, last-tick, head-size, event-size, countOf, eventsOf, listBytes}
 use Rattle.rules.specs.Display.{State, Run, Rule, Drawn, drawn, Loaded, loaded, going, refused, then, start, finished, run}
-use Rattle.rules.specs.Plans.{last-plan, ruleOf, runPlan, begunIn}
+use Rattle.rules.specs.Plans.{last-plan, ruleOf, runPlan}
 
 -- ---- A job: refusals 1 to 5
 

@@ -11,7 +11,8 @@ use Rattle.rules.specs.Job.{shapeOf, draws-at}
 use Rattle.rules.specs.LoadList.{Event, eventsIn, head-size}
 use Rattle.rules.specs.declared.Shape.{Shape}
 use Rattle.laws.proofs.Events.{length-eventsIn}
-use Rattle.checker.proofs.Follows.{landed-loads, landed-room, followed}
+use Rattle.display.proofs.Landed.{landed-loads, landed-room}
+use Rattle.checker.proofs.Follows.{followed}
 use Rattle.checker.proofs.run.follow_tick.Statement.{statement}
 use Rattle.checker.proofs.run.follow_tick.Tie as tie
 

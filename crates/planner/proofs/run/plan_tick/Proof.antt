@@ -9,7 +9,8 @@ use Rattle.rules.specs.Job.{shapeOf, drawsOf, draws-at, jobOf}
 use Rattle.rules.specs.declared.Shape.{Shape}
 use Rattle.laws.proofs.Symbols.{length-symbols}
 use Rattle.planner.specs.Asks.{asksBy}
-use Rattle.planner.proofs.Ticked.{landed-next, landed-loads, landed-room, ticked}
+use Rattle.display.proofs.Landed.{landed-next, landed-loads, landed-room}
+use Rattle.planner.proofs.Ticked.{ticked}
 use Rattle.planner.proofs.Turned.{length-rowOf}
 use Rattle.planner.proofs.run.plan_tick.Statement.{statement}
 use Rattle.planner.proofs.run.plan_tick.Tie as tie
