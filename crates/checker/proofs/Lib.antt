@@ -1,4 +1,3 @@
-pub mod Follows
 pub mod Walks
 pub mod Ends
 pub mod Copies

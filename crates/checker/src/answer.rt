@@ -38,7 +38,9 @@ fn hand_out(
 {
     let mut at = [0u32; 4096];
     let mut from = [0u8; 4096];
-    let ran = run_list(job, list, shape, count, &mut at, &mut from);
+    let mut held = sheet::starting_slots(job, shape.slots);
+    let k = shape.slots as usize;
+    let ran = run_list(job, list, shape, count, &mut held[..k], &mut at, &mut from);
     let drawn = ran.drawn;
     copy_ticks(ticks, &at, drawn);
     copy_slots(slots, &from, drawn);

@@ -1,25 +1,21 @@
 // The run of a display along a load list.
+use crate::follow::follow_tick;
+use crate::rest::rest_of;
 use crate::walk::event_of;
 use display::Display;
-use display::Outcome;
-use display::Ticked;
-use display::advance;
-use display::land;
 use display::start;
 use rules::Answer;
-use rules::Begun;
 use rules::EventReading;
 use rules::Happening;
 use rules::Shape;
 ghost use mathlib.Core.Path.{_≡_};
-ghost use Prim.Native.Nat.{_≤_, _<_};
+ghost use Prim.Native.Nat.{_<_};
 ghost use lib.ListN.{length, drop};
-ghost use Rattle.rules.specs.Job.{shapeOf, drawsOf, jobOf};
+ghost use Rattle.rules.specs.Job.{drawsOf, jobOf};
 ghost use Rattle.rules.specs.LoadList.{eventsIn, head-size};
 ghost use Rattle.rules.specs.Display.{refused};
-ghost use Rattle.rules.specs.Refusals.{answerOf, due, unruly, follows};
-ghost use Rattle.display.specs.Tick.{Room};
-ghost use Rattle.checker.specs.Follow.{Sized, Followed, noted, Shown, Finished, Ready};
+ghost use Rattle.rules.specs.Refusals.{answerOf, unruly, follows};
+ghost use Rattle.checker.specs.Follow.{Sized, noted, Shown, Finished, Ready};
 
 // The first event that breaks the rule of ticks, or the number of events. (Refusal 9)
 pub fn first_unruly(list: &[u8], count: u16) -> u32
@@ -48,43 +44,6 @@ pub fn first_unruly(list: &[u8], count: u16) -> u32
         index += 1;
     }
     index
-}
-
-// What the list asks for in this tick, when so many of its loads have begun.
-fn asked_of(list: &[u8], count: u16, loads: u32, tick: u32) -> Begun
-    requires { ⌜ Sized count (now list) ⌝ }
-    ensures { λ r. ⌜ r ≡ due (drop loads (eventsIn count (drop head-size (now (list .entry))))) tick ⌝ }
-{
-    if count as u32 <= loads {
-        return Begun::NoLoad;
-    }
-    let reading = event_of(list, loads);
-    let EventReading::Event {
-        tick: at,
-        slot,
-        symbol,
-    } = reading
-    else {
-        return Begun::NoLoad;
-    };
-    if at == tick {
-        return Begun::Load { slot, symbol };
-    }
-    Begun::NoLoad
-}
-
-// One tick along the list, while draws remain.
-fn follow_tick(job: &[u8], list: &[u8], shape: Shape, count: u16, d: Display) -> Ticked
-    requires { ⌜ (shape ≡ shapeOf (now job)) × (shape .slots ≤ 64) × Sized count (now list) × Room d × (d .loads < 4294967295) × (d .next < shape .draws) ⌝ }
-    ensures { λ r. ⌜ Followed (jobOf (now (job .entry))) (eventsIn count (drop head-size (now (list .entry)))) d r ⌝ }
-{
-    let landed = land(d);
-    let tick = landed.tick;
-    let loads = landed.loads;
-    let symbol = sheet::draw_symbol(job, shape.slots, landed.next);
-    let asked = asked_of(list, count, loads, tick);
-    let done = count as u32 <= loads;
-    advance(landed, shape.slots, shape.time, asked, symbol, done)
 }
 
 // Notes a draw in both buffers; a wait leaves them as they are.
@@ -143,45 +102,41 @@ fn finish(d: Display, count: u16) -> Ran
     }
 }
 
-// The run of the whole list, with the draws noted in the two buffers.
+// The run of the whole list from the slots as they start, with the draws noted in the two buffers.
 pub fn run_list(
     job: &[u8],
     list: &[u8],
     shape: Shape,
     count: u16,
+    held: &mut [u16],
     ticks: &mut [u32],
     slots: &mut [u8],
 ) -> Ran
-    requires { ⌜ Ready (now job) (now list) shape count (now ticks) (now slots) ⌝ }
+    requires { ⌜ Ready (now job) (now list) shape count (now held) (now ticks) (now slots) ⌝ }
     ensures { λ r. ⌜ Shown (length (drawsOf (now (job .entry)))) (follows (jobOf (now (job .entry))) (eventsIn count (drop head-size (now (list .entry))))) r (now (ticks .exit)) (now (slots .exit)) ⌝ }
 {
-    let mut d = start(sheet::starting_slots(job, shape.slots));
-    let mut left: u32 = 8388608 + shape.time as u32 + shape.draws as u32;
+    let limit: u32 = 8388608 + shape.time as u32 + shape.draws as u32;
+    let mut d = start();
     loop {
         let draw = d.next;
         let tick = d.tick;
         if shape.draws <= draw {
             return finish(d, count);
         }
-        if left == 0 {
+        if limit <= tick {
             return finish(d, count);
         }
-        let ticked = follow_tick(job, list, shape, count, d);
-        let outcome = ticked.outcome;
-        match outcome {
-            Outcome::Refused { number, detail } => {
-                return Ran {
-                    answer: refusal(number, detail),
-                    drawn: 0,
-                };
-            }
-            Outcome::Went(record) => {
-                let happening = record.happening;
-                note(ticks, slots, draw, tick, happening);
-                let later = ticked.display;
-                d = later;
-                left -= 1;
-            }
+        let ticked = follow_tick(job, list, shape, count, held, d);
+        if ticked.number != 0 {
+            return Ran {
+                answer: refusal(ticked.number, ticked.detail),
+                drawn: 0,
+            };
         }
+        let on_record = ticked.on_record;
+        let happening = on_record.happening;
+        note(ticks, slots, draw, tick, happening);
+        let later = ticked.display;
+        d = rest_of(list, count, later, happening, limit);
     }
 }

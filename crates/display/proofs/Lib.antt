@@ -1,3 +1,6 @@
 pub mod Views
 pub mod Ticks
 pub mod Landed
+pub mod Steps
+pub mod Stretches
+pub mod Going

@@ -2,21 +2,49 @@
 use Prim.Native.Nat.{ℕ, zero, suc, _-_}
 use native.Mathlib.Omega.{arith}
 use mathlib.Core.Path.{_≡_, refl}
+use mathlib.Core.List.{List}
 use lib.ListN.{set}
-use Rattle.rules.specs.declared.Loading.the-variants.{Idle, Under}
-use Rattle.rules.specs.Display.{land}
-use Rattle.laws.proofs.Places.{take-set}
+use Rattle.rules.specs.declared.Loading.the-variants.{Under}
+use Rattle.rules.specs.Display.{land, landedSlots, landedLoading}
 use Rattle.display.specs.declared.state.Display.{Display}
-use Rattle.display.specs.View.{Beside, view, holding}
+use Rattle.display.specs.View.{Beside, loadingOf, view}
 
-module _ (k : ℕ) (h : Beside) (d : Display) where
-  pub idle-lands : d .loading ≡ Idle → view k h d ≡ land (view k h d)
+-- Where no load ends, one under way comes a tick nearer to its end and no slot changes.
+nearer-loading : (until q x : ℕ) → (until ≡ 1 → ⊥) → loadingOf (until - 1) q x ≡ landedLoading (loadingOf until q x)
+nearer-loading zero q x far = refl
+nearer-loading (suc zero) q x far = absurd (far refl)
+nearer-loading (suc (suc left)) q x far = let one-less : suc (suc left) - 1 ≡ suc left = omega arith in simp one-less
+
+nearer-slots : (until q x : ℕ) (slots : List ℕ) → (until ≡ 1 → ⊥) → slots ≡ landedSlots (loadingOf until q x) slots
+nearer-slots zero q x slots far = refl
+nearer-slots (suc zero) q x slots far = absurd (far refl)
+nearer-slots (suc (suc left)) q x slots far = refl
+
+-- A load is under way where there are ticks until it ends.
+pub under-way : (until q x : ℕ) → (until ≡ 0 → ⊥) → loadingOf until q x ≡ Under (until - 1) q x
+under-way zero q x some = absurd (some refl)
+under-way (suc left) q x some = let one-less : suc left - 1 ≡ left = omega arith in simp one-less
+
+-- The display with its load a tick nearer to its end.
+abbrev pub nearer : Display → Display
+nearer d =
+    record {
+      tick = d .tick;
+      waits = d .waits;
+      loads = d .loads;
+      next = d .next;
+      until = d .until - 1;
+      into = d .into;
+      what = d .what;
+    }
+
+module _ (slots : List ℕ) (h : Beside) (d : Display) where
+  pub idle-lands : d .until ≡ 0 → view slots h d ≡ land (view slots h d)
   idle-lands e = simp e
 
-  pub ended-lands : (q x : ℕ) → d .loading ≡ Under 0 q x → view k h (holding d (set (d .slots) q x) Idle) ≡ land (view k h d)
-  ended-lands q x e = simp (e, take-set)
+  pub ended-lands : d .until ≡ 1 → view (set slots (d .into) (d .what)) h (nearer d) ≡ land (view slots h d)
+  ended-lands e = simp e
 
-  pub nearer-lands : (left q x : ℕ) → (left ≡ 0 → ⊥) → d .loading ≡ Under left q x
-      → view k h (holding d (d .slots) (Under (left - 1) q x)) ≡ land (view k h d)
-  nearer-lands zero q x f e = absurd (f refl)
-  nearer-lands (suc left) q x f e = let one-less : suc left - 1 ≡ left = omega arith in simp (e, one-less)
+  pub nearer-lands : (d .until ≡ 1 → ⊥) → view slots h (nearer d) ≡ land (view slots h d)
+  nearer-lands far =
+      simp (nearer-loading (d .until) (d .into) (d .what) far, ← nearer-slots (d .until) (d .into) (d .what) slots far)

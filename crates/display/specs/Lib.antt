@@ -1,2 +1,3 @@
 pub mod View
 pub mod Tick
+pub mod Still

@@ -1,16 +1,17 @@
--- The code's state as the rules' state. The code holds 64 slots, of which a job uses the first k, and does not hold what stands
--- beside it: the draws that remain, the draws made, the loads begun.
-use Prim.Native.Nat.{ℕ}
+-- The code's state as the rules' state. The code has what the slots hold in lent memory, and does not hold what stands beside it: the
+-- draws that remain, the draws made, the loads begun.
+use Prim.Native.Nat.{ℕ, zero, suc}
 use mathlib.Core.List.{List, [], _∷_, _++_}
-use lib.ListN.{take, drop}
+use lib.ListN.{drop}
 use Rattle.rules.specs.declared.Loading.{Loading}
+use Rattle.rules.specs.declared.Loading.the-variants.{Idle, Under}
 use Rattle.rules.specs.declared.Begun.{Begun}
 use Rattle.rules.specs.declared.Begun.the-variants.{Load, NoLoad}
 use Rattle.rules.specs.declared.Happening.{Happening}
 use Rattle.rules.specs.declared.Happening.the-variants.{Draw, Wait}
 use Rattle.rules.specs.declared.TickRecord.{TickRecord}
 use Rattle.rules.specs.Job.{Job}
-use Rattle.rules.specs.Display.{State, Drawn, drawn, Loaded, loaded}
+use Rattle.rules.specs.Display.{State, Drawn, drawn, Loaded, loaded, begin}
 use Rattle.display.specs.declared.state.Display.{Display}
 
 pub record Beside : Type 0 where
@@ -18,24 +19,24 @@ pub record Beside : Type 0 where
   pub made : List Drawn
   pub begun : List Loaded
 
-abbrev pub view : ℕ → Beside → Display → State
-view k h d =
+-- The loader, told from the ticks until its load ends: 0 where it is idle.
+abbrev pub loadingOf : ℕ → ℕ → ℕ → Loading
+loadingOf zero q x = Idle
+loadingOf (suc left) q x = Under left q x
+
+abbrev pub view : List ℕ → Beside → Display → State
+view slots h d =
     record {
       tick = d .tick;
       next = d .next;
       rest = h .rest;
-      slots = take k (d .slots);
-      loading = d .loading;
+      slots = slots;
+      loading = loadingOf (d .until) (d .into) (d .what);
       waits = d .waits;
       loads = d .loads;
       made = h .made;
       begun = h .begun;
     }
-
--- The same display with other slots and another load under way.
-abbrev pub holding : Display → List ℕ → Loading → Display
-holding d slots loading =
-    record { tick = d .tick; next = d .next; waits = d .waits; loads = d .loads; loading = loading; slots = slots }
 
 -- What stands beside the display once a load has begun, and once a draw was made.
 abbrev pub begunNow : Display → ℕ → ℕ → Beside → Beside
@@ -57,9 +58,11 @@ besideMade d (Wait cause) h = h
 abbrev pub onward : Display → TickRecord → Beside → Beside
 onward d tick h = besideMade d (tick .happening) (besideBegun d (tick .begun) h)
 
--- All that a single search looks at: the awaited symbol, and the numbers of a job.
+-- The state once the load that is asked for has begun, where one is.
+abbrev pub begunBy : Job → Begun → State → State
+begunBy job NoLoad s = s
+begunBy job (Load q x) s = begin job q x s
+
+-- All that a single search looks at: the awaited symbol.
 abbrev pub awaiting : ℕ → Beside
 awaiting x = record { rest = x ∷ []; made = []; begun = [] }
-
-abbrev pub shaped : ℕ → ℕ → Job
-shaped k time = record { slots = k; time = time; starting = []; draws = [] }

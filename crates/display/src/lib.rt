@@ -1,12 +1,18 @@
-// The display: its state by value, one tick of it, and the search for the slot that holds a symbol.
+// The display: its state by value and its slots lent, the steps of a tick, a stretch of waits, and the search for the slot of a symbol.
 mod search;
 mod state;
+mod still;
 mod tick;
 
 pub use search::find;
 pub use state::Display;
+pub use state::begin;
 pub use state::land;
 pub use state::start;
-pub use tick::Outcome;
+pub use still::before_end;
+pub use still::pass;
+pub use still::smaller;
 pub use tick::Ticked;
-pub use tick::advance;
+pub use tick::load_number;
+pub use tick::refused_load;
+pub use tick::settle;

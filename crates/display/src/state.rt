@@ -1,158 +1,131 @@
 // The display's state, and the moves that make up a tick: a load ends or comes nearer to its end, a load begins, a draw, a wait.
-use rules::Loading;
+// What the slots hold is lent beside the state, so that no tick copies it.
+use rules::Begun;
 ghost use mathlib.Core.Path.{_≡_};
-ghost use Prim.Native.Nat.{ℕ, _-_, _<_};
+ghost use mathlib.Core.List.{List};
+ghost use Prim.Native.Nat.{ℕ, _-_, _≤_, _<_};
 ghost use lib.ListN.{set};
 ghost use Rattle.rules.specs.Job.{Job};
-ghost use Rattle.rules.specs.Display.{land, begin, draw, wait};
-ghost use Rattle.display.specs.View.{Beside, view, begunNow, drawnNow, holding};
+ghost use Rattle.rules.specs.Display.{land, draw, wait};
+ghost use Rattle.display.specs.View.{Beside, view, besideBegun, begunBy, drawnNow};
 
-// The ticks passed, the next draw number, the waits and loads so far, the load under way, and what each slot holds.
+// The ticks passed, the waits and loads so far and the next draw number; then the load under way: in how many ticks it ends, or 0 where
+// none is under way, and its slot and its symbol.
 pub struct Display {
     pub tick: u32,
-    pub next: u16,
     pub waits: u32,
     pub loads: u32,
-    pub loading: Loading,
-    pub slots: [u16; 64],
+    pub next: u16,
+    pub until: u16,
+    pub into: u16,
+    pub what: u16,
 }
 
 // What a slot holds that holds no symbol.
 pub const FREE: u16 = 65535;
 
-// Tick 0, with the starting symbols in the slots.
-pub fn start(slots: [u16; 64]) -> Display
-    ensures { λ r. ⌜ r ≡ record { tick = 0; next = 0; waits = 0; loads = 0; loading = Loading.Idle; slots = slots } ⌝ }
+// Tick 0, with no load under way.
+pub fn start() -> Display
+    ensures { λ r. ⌜ r ≡ record { tick = 0; waits = 0; loads = 0; next = 0; until = 0; into = 0; what = 0 } ⌝ }
 {
     Display {
         tick: 0,
-        next: 0,
         waits: 0,
         loads: 0,
-        loading: Loading::Idle,
-        slots,
+        next: 0,
+        until: 0,
+        into: 0,
+        what: 0,
     }
 }
 
-fn put(slots: [u16; 64], slot: u8, content: u16) -> [u16; 64]
-    ensures { λ r. ⌜ r ≡ set slots slot content ⌝ }
+// A slot past the last is none, and a store there is no store.
+fn put(slots: &mut [u16], slot: u16, content: u16)
+    ensures { λ r. ⌜ now (slots .exit) ≡ set (now (slots .entry)) slot content ⌝ }
 {
     let at = slot as usize;
-    if at < 64 {
-        let mut next = slots;
-        next[at] = content;
-        return next;
-    }
-    slots
-}
-
-fn hold(d: Display, slot: u8, content: u16, loading: Loading) -> Display
-    ensures { λ r. ⌜ r ≡ holding d (set (d .slots) slot content) loading ⌝ }
-{
-    let before = d.slots;
-    let slots = put(before, slot, content);
-    Display {
-        tick: d.tick,
-        next: d.next,
-        waits: d.waits,
-        loads: d.loads,
-        loading,
-        slots,
+    if at < slots.len() {
+        slots[at] = content;
     }
 }
 
-fn nearer(d: Display, loading: Loading) -> Display
-    ensures { λ r. ⌜ r ≡ holding d (d .slots) loading ⌝ }
+fn nearer(d: Display) -> Display
+    requires { ⌜ 1 ≤ d .until ⌝ }
+    ensures { λ r. ⌜ r ≡ record { tick = d .tick; waits = d .waits; loads = d .loads; next = d .next; until = d .until - 1; into = d .into; what = d .what } ⌝ }
 {
-    let slots = d.slots;
     Display {
         tick: d.tick,
-        next: d.next,
         waits: d.waits,
         loads: d.loads,
-        loading,
-        slots,
+        next: d.next,
+        until: d.until - 1,
+        into: d.into,
+        what: d.what,
     }
 }
 
 // Step 1 of a tick.
-pub fn land(d: Display) -> Display
-    ensures { λ r. ⌜ ((k : ℕ) (h : Beside) → view k h r ≡ land (view k h d)) ⌝ }
+pub fn land(slots: &mut [u16], d: Display) -> Display
+    ensures { λ r. ⌜ ((h : Beside) → view (now (slots .exit)) h r ≡ land (view (now (slots .entry)) h d)) ⌝ }
 {
-    let loading = d.loading;
-    match loading {
-        Loading::Idle => d,
-        Loading::Under { left, slot, symbol } => {
-            if left == 0 {
-                hold(d, slot, symbol, Loading::Idle)
-            } else {
-                nearer(
-                    d,
-                    Loading::Under {
-                        left: left - 1,
-                        slot,
-                        symbol,
-                    },
-                )
-            }
-        }
+    if d.until == 0 {
+        return d;
     }
+    if d.until == 1 {
+        put(slots, d.into, d.what);
+        return nearer(d);
+    }
+    nearer(d)
 }
 
-fn one_less(time: u16) -> u16
-    ensures { λ r. ⌜ r ≡ time - 1 ⌝ }
+// Step 2 of a tick, where the load that is asked for, if any is, was not refused.
+pub fn begin(slots: &mut [u16], d: Display, time: u16, asked: Begun) -> Display
+    requires { ⌜ (1 ≤ time) × (d .loads < 4294967295) ⌝ }
+    ensures { λ r. ⌜ ((h : Beside) (job : Job) → job .time ≡ time → view (now (slots .exit)) (besideBegun d asked h) r ≡ begunBy job asked (view (now (slots .entry)) h d)) ⌝ }
 {
-    if time == 0 { 0 } else { time - 1 }
-}
-
-// Step 2 of a tick, for a load that is not refused.
-pub fn begin(d: Display, time: u16, slot: u8, symbol: u16) -> Display
-    requires { ⌜ d .loads < 4294967295 ⌝ }
-    ensures { λ r. ⌜ ((k : ℕ) (h : Beside) (job : Job) → job .time ≡ time → view k (begunNow d slot symbol h) r ≡ begin job slot symbol (view k h d)) ⌝ }
-{
-    let left = one_less(time);
-    let before = d.slots;
-    let slots = put(before, slot, FREE);
+    let Begun::Load { slot, symbol } = asked else {
+        return d;
+    };
+    put(slots, slot as u16, FREE);
     Display {
         tick: d.tick,
-        next: d.next,
         waits: d.waits,
         loads: d.loads + 1,
-        loading: Loading::Under { left, slot, symbol },
-        slots,
+        next: d.next,
+        until: time,
+        into: slot as u16,
+        what: symbol,
     }
 }
 
 // Step 3 of a tick that draws, from whatever slot.
 pub fn draw(d: Display) -> Display
     requires { ⌜ (d .tick < 4294967295) × (d .next < 65535) ⌝ }
-    ensures { λ r. ⌜ ((k : ℕ) (h : Beside) (q : ℕ) → view k (drawnNow d q h) r ≡ draw q (view k h d)) ⌝ }
+    ensures { λ r. ⌜ ((slots : List ℕ) (h : Beside) (q : ℕ) → view slots (drawnNow d q h) r ≡ draw q (view slots h d)) ⌝ }
 {
-    let loading = d.loading;
-    let slots = d.slots;
     Display {
         tick: d.tick + 1,
-        next: d.next + 1,
         waits: d.waits,
         loads: d.loads,
-        loading,
-        slots,
+        next: d.next + 1,
+        until: d.until,
+        into: d.into,
+        what: d.what,
     }
 }
 
 // Step 3 of a tick that waits.
 pub fn wait(d: Display) -> Display
     requires { ⌜ (d .tick < 4294967295) × (d .waits < 4294967295) ⌝ }
-    ensures { λ r. ⌜ ((k : ℕ) (h : Beside) → view k h r ≡ wait (view k h d)) ⌝ }
+    ensures { λ r. ⌜ ((slots : List ℕ) (h : Beside) → view slots h r ≡ wait (view slots h d)) ⌝ }
 {
-    let loading = d.loading;
-    let slots = d.slots;
     Display {
         tick: d.tick + 1,
-        next: d.next,
         waits: d.waits + 1,
         loads: d.loads,
-        loading,
-        slots,
+        next: d.next,
+        until: d.until,
+        into: d.into,
+        what: d.what,
     }
 }

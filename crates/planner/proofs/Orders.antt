@@ -3,7 +3,7 @@ use Prim.Native.Nat.{ℕ, zero, suc, _<_, _≤_}
 use native.Mathlib.Omega.{arith}
 use mathlib.Core.Path.{_≡_, refl, sym, ap, _∙_}
 use mathlib.Core.List.{List, [], _∷_, map}
-use lib.ListN.{length, getD, take, drop, set, drop-of-length-le}
+use lib.ListN.{length, getD, take, drop, set, length-map, drop-of-length-le}
 use lib.Seq.{drop-cons, getD-take, set-out}
 use Rattle.rules.specs.declared.Begun.{Begun}
 use Rattle.rules.specs.declared.Begun.the-variants.{Load, NoLoad}
@@ -20,27 +20,34 @@ earliest-first : (e : Loaded) (later : List Loaded) (s : State) → earliestAt (
 earliest-first (loaded t d q x) later s = refl
 
 -- What stands at a place of a row is the number of the load at that place of the list.
+number-of : (f : Loaded → ℕ) (l : List Loaded) (at : ℕ) (row : List ℕ) (e : Loaded) → at < length l → map f l ≡ row → getD row at 0 ≡ f (getD l at e)
+number-of f l at row e within same = sym (getD-map f l at e within ∙ ap (λ (r : List ℕ). getD r at 0) same)
+
 pub number-at : (f : Loaded → ℕ) (l : List Loaded) (count at : ℕ) (row : List ℕ) (e : Loaded) → length l ≡ count → at < count
     → map f l ≡ take count row → getD row at 0 ≡ f (getD l at e)
 number-at f l count at row e many within same =
-    sym (getD-map f l at e (omega arith) ∙ ap (λ (r : List ℕ). getD r at 0) same ∙ getD-take count row at 0 within)
+    sym (getD-take count row at 0 within) ∙ number-of f l at (take count row) e (omega arith) same
 
-pub order-there : (l : List Loaded) (s : State) (count at : ℕ) (draws slots symbols : List ℕ) → Lists l count draws slots symbols → at < count
-    → earliestAt (getD draws at 0) (getD slots at 0) (getD symbols at 0) s ≡ earliest (drop at l) s
-order-there l s count at draws slots symbols lists within =
+pub order-there : (l : List Loaded) (s : State) (at : ℕ) (misses into what : List ℕ) → Lists l misses into what → at < length misses
+    → earliestAt (getD misses at 0) (getD into at 0) (getD what at 0) s ≡ earliest (drop at l) s
+order-there l s at misses into what lists within =
     let e : Loaded = loaded 0 0 0 0 in
-    let many : length l ≡ count = lists .many in
+    let many : length l ≡ length misses = sym (length-map l loadDraw) ∙ ap length (lists .for) in
     let inside : at < length l = omega arith in
     rw (
-      number-at loadDraw l count at draws e many within (lists .for),
-      number-at loadSlot l count at slots e many within (lists .into),
-      number-at loadSymbol l count at symbols e many within (lists .what),
+      number-of loadDraw l at misses e inside (lists .for),
+      number-of loadSlot l at into e inside (lists .slots),
+      number-of loadSymbol l at what e inside (lists .symbols),
       drop-cons l at e inside,
     )
     (earliest-first (getD l at e) (drop (suc at) l) s)
 
-pub order-none : (l : List Loaded) (s : State) (at : ℕ) → length l ≤ at → NoLoad ≡ earliest (drop at l) s
-order-none l s at over = sym (ap (λ (r : List Loaded). earliest r s) (drop-of-length-le l over))
+pub order-none : (l : List Loaded) (s : State) (at : ℕ) (misses into what : List ℕ) → Lists l misses into what → length misses ≤ at
+    → NoLoad ≡ earliest (drop at l) s
+order-none l s at misses into what lists over =
+    let many : length l ≡ length misses = sym (length-map l loadDraw) ∙ ap length (lists .for) in
+    let past : length l ≤ at = omega arith in
+    sym (ap (λ (r : List Loaded). earliest r s) (drop-of-length-le l past))
 
 -- ---- Noting
 

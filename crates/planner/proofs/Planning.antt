@@ -3,14 +3,14 @@ use Prim.Native.Nat.{ℕ, _+_, _*_, _<_, _≤_}
 use native.Mathlib.Omega.{arith}
 use mathlib.Core.Path.{_≡_, refl, sym, ap, _∙_}
 use mathlib.Core.Bool.{Bool, true, false, cond}
-use mathlib.Core.List.{List, []}
+use mathlib.Core.List.{List, [], map}
 use lib.ListN.{length, take, drop, length-take}
 use borrow.Author.Tests.{lt-ltb, le-ltb, ne-eqb}
 use Rattle.rules.specs.declared.JobReading.the-variants.{Taken, Refused}
 use Rattle.rules.specs.declared.Shape.{Shape}
 use Rattle.rules.specs.Job.{symbols, shapeOf, startingOf, drawsOf, draws-at, jobOf, most-slots, most-draws}
 use Rattle.rules.specs.LoadList.{head-size, event-size}
-use Rattle.rules.specs.Display.{State, Run, going, refused, finished}
+use Rattle.rules.specs.Display.{State, Run, Loaded, going, refused, finished}
 use Rattle.rules.specs.Plans.{runPlan, begunIn, ruleOf, last-plan}
 use Rattle.rules.specs.Refusals.{readJob, badJobLength, badJobVersion, badLimits, badJobSize, badSymbols, inTime, planned, writtenBy, lent}
 use Rattle.laws.proofs.Cases.{by-test}
@@ -21,7 +21,7 @@ use Rattle.plan_laws.proofs.Plans.{Any, plan-done}
 use Rattle.display.specs.View.{view}
 use Rattle.planner.specs.declared.run.Ran.{Ran}
 use Rattle.planner.specs.Asks.{rowOf}
-use Rattle.planner.specs.Loads.{Noted, Written, Fitting}
+use Rattle.planner.specs.Loads.{Lists, Noted, Written, Fitting, loadDraw, loadSlot, loadSymbol}
 use Rattle.planner.specs.Runs.{Limits, Shown, Planned}
 use Rattle.planner.proofs.Turned.{length-rowOf}
 
@@ -72,9 +72,11 @@ limits job shape taken =
     let few : length (drawsOf job) ≤ most-draws = p .few-draws in
     let same-slots : shapeOf job .slots ≡ shape .slots = ap (λ (s : Shape). s .slots) same in
     let same-draws : shapeOf job .draws ≡ shape .draws = ap (λ (s : Shape). s .draws) same in
+    let same-time : shapeOf job .time ≡ shape .time = ap (λ (s : Shape). s .time) same in
+    let lasts : 1 ≤ shapeOf job .time = p .some-time in
     let some : 1 ≤ shapeOf job .slots = p .some-slot in
     let slots : shapeOf job .slots ≤ most-slots = p .few-slots in
-    record { shaped = sym same; some-slot = omega arith; few-slots = omega arith; few-draws = omega arith }
+    record { shaped = sym same; some-slot = omega arith; few-slots = omega arith; some-time = omega arith; few-draws = omega arith }
 
 -- A plan's row, copied for this shape, is the row of the job's draws.
 pub row-right : (plan : ℕ) (job : List ℕ) (shape : Shape) (row : List ℕ) → shape ≡ shapeOf job
@@ -98,30 +100,64 @@ by-over false v last e = let z : _≡_ {A = ℕ} 0 1 = cc in absurd (omega arith
 last-in-time : (s : State) → s .rest ≡ [] → inTime (going s) ≡ going s
 last-in-time s e = ap (λ (l : List ℕ). cond (finished l) (going s) (refused 15 0)) e
 
-module _ (job : List ℕ) (shape : Shape) (taken : readJob job ≡ Taken shape) (p : ℕ) (r : Ran)
-    (shown : Shown (shapeOf job .slots) (runPlan (jobOf job) (ruleOf (jobOf job) p)) r) where
+-- A run that is shown is over in time, and its loads are those of the rules.
+module _ (job : List ℕ) (shape : Shape) (taken : readJob job ≡ Taken shape) (p : ℕ) (r : Ran) (ticks draws slots symbols : List ℕ)
+    (shown : Shown (runPlan (jobOf job) (ruleOf (jobOf job) p)) r ticks draws slots symbols) where
   done : Done (jobOf job) (ruleOf (jobOf job) p) Any
   done = plan-done (jobOf job) (proper job shape taken) p
 
-  ended : (r .over ≡ true) × (view (shapeOf job .slots) (shown .beside) (r .display) ≡ done .last)
+  ended : (r .over ≡ true) × (view (shown .held) (shown .beside) (r .display) ≡ done .last)
   ended =
-      by-over (r .over) (view (shapeOf job .slots) (shown .beside) (r .display)) (done .last)
+      by-over (r .over) (view (shown .held) (shown .beside) (r .display)) (done .last)
       (sym (shown .ends) ∙ ap inTime (done .ran) ∙ last-in-time (done .last) (done .over))
 
-  pub few-loads : r .loads .count ≤ length (drawsOf job)
+  few-loads : r .display .loads ≤ length (drawsOf job)
   few-loads =
       let same : r .display .loads ≡ done .last .loads = ap (λ (s : State). s .loads) (ended .1) in
       let few : done .last .loads ≤ length (drawsOf job) = done .few in
-      let many : r .loads .count ≡ r .display .loads = shown .many in
       omega arith
 
-  pub loads-noted : Noted (begunIn (runPlan (jobOf job) (ruleOf (jobOf job) p))) (r .loads)
-  loads-noted =
-      let few : length (drawsOf job) ≤ most-draws = proper job shape taken .few-draws in
-      let same : shown .beside .begun ≡ begunIn (runPlan (jobOf job) (ruleOf (jobOf job) p)) =
-      ap (λ (s : State). s .begun) (ended .1) ∙ ap begunIn (sym (done .ran)) in
-      let little : r .loads .count ≤ length (drawsOf job) = few-loads in
-      rw same at (shown .noted (omega arith))
+  pub shown-planned : Planned p job r ticks draws slots symbols
+  shown-planned = record { shown = shown; few = few-loads; few-draws = proper job shape taken .few-draws }
+
+module _ (job : List ℕ) (shape : Shape) (taken : readJob job ≡ Taken shape) (p : ℕ) (r : Ran) (ticks draws slots symbols : List ℕ)
+    (ran : Planned p job r ticks draws slots symbols) where
+  -- Every load has a place in the rows.
+  pub planned-few : r .display .loads ≤ most-draws
+  planned-few =
+      let few : r .display .loads ≤ length (drawsOf job) = ran .few in
+      let most : length (drawsOf job) ≤ most-draws = ran .few-draws in
+      omega arith
+
+  noted : Noted (ran .shown .beside .begun) (r .display .loads) ticks draws slots symbols
+  noted = ran .shown .noted planned-few
+
+  -- As far as loads stand in the rows, they are those of the rules, as conservative reads them.
+  pub planned-lists : Lists (begunIn (runPlan (jobOf job) (ruleOf (jobOf job) p)))
+      (take (r .display .loads) draws)
+      (take (r .display .loads) slots)
+      (take (r .display .loads) symbols)
+  planned-lists =
+      let same : ran .shown .beside .begun ≡ begunIn (runPlan (jobOf job) (ruleOf (jobOf job) p)) =
+      ap (λ (s : State). s .begun) (ended job shape taken p r ticks draws slots symbols (ran .shown) .1)
+      ∙ ap begunIn (sym (done job shape taken p r ticks draws slots symbols (ran .shown) .ran)) in
+      record {
+        for = ap (λ (l : List Loaded). map loadDraw l) (sym same) ∙ noted .for;
+        slots = ap (λ (l : List Loaded). map loadSlot l) (sym same) ∙ noted .into;
+        symbols = ap (λ (l : List Loaded). map loadSymbol l) (sym same) ∙ noted .what;
+      }
+
+  -- They are written as they are noted.
+  pub written : Written (ran .shown .beside .begun) (r .display .loads) ticks slots symbols
+  written = record { many = noted .many; at = noted .at; into = noted .into; what = noted .what }
+
+  pub fitting : length ticks ≡ most-draws → length slots ≡ most-draws → length symbols ≡ most-draws
+      → (room : List ℕ) → head-size + event-size * length (drawsOf job) ≤ length room
+      → Fitting (r .display .loads) room ticks slots symbols
+  fitting tick-room slot-room symbol-room room enough =
+      let few : r .display .loads ≤ length (drawsOf job) = ran .few in
+      let most : length (drawsOf job) ≤ most-draws = ran .few-draws in
+      record { enough = omega arith; tick-row = omega arith; slot-row = omega arith; symbol-row = omega arith }
 
 -- ---- The answer
 
@@ -134,35 +170,17 @@ pub untouched : (run : Run) (number detail : ℕ) (room : List ℕ) → run ≡ 
 untouched run number detail room e = ap (λ (r : Run). lent (writtenBy r) room) (sym e)
 
 module _ (job : List ℕ) (shape : Shape) (taken : readJob job ≡ Taken shape) (p room : ℕ) (known : p ≤ last-plan)
-    (enough : head-size + event-size * length (drawsOf job) ≤ room) (r : Ran) (ran : Planned p job r) where
-  pub planned-over : r .over ≡ true → planned job p room ≡ going (view (shapeOf job .slots) (ran .shown .beside) (r .display))
-  planned-over over =
+    (enough : head-size + event-size * length (drawsOf job) ≤ room) (r : Ran) (ticks draws slots symbols : List ℕ)
+    (ran : Planned p job r ticks draws slots symbols) where
+  by-end : (over : Bool) → r .over ≡ over
+      → planned job p room ≡ cond over (going (view (ran .shown .held) (ran .shown .beside) (r .display))) (refused 15 0)
+  by-end over same =
       planned-run job p room shape taken known enough
       ∙ ran .shown .ends
-      ∙ ap (λ (b : Bool). cond b (going (view (shapeOf job .slots) (ran .shown .beside) (r .display))) (refused 15 0)) over
+      ∙ ap (λ (b : Bool). cond b (going (view (ran .shown .held) (ran .shown .beside) (r .display))) (refused 15 0)) same
+
+  pub planned-over : r .over ≡ true → planned job p room ≡ going (view (ran .shown .held) (ran .shown .beside) (r .display))
+  planned-over over = by-end true over
 
   pub planned-late : r .over ≡ false → planned job p room ≡ refused 15 0
-  planned-late late =
-      planned-run job p room shape taken known enough
-      ∙ ran .shown .ends
-      ∙ ap (λ (b : Bool). cond b (going (view (shapeOf job .slots) (ran .shown .beside) (r .display))) (refused 15 0)) late
-
--- The loads of a run that is over are written as they are noted.
-pub written : (p : ℕ) (job : List ℕ) (r : Ran) (ran : Planned p job r) → r .over ≡ true
-    → Written (ran .shown .beside .begun) (r .loads .count) (r .loads .ticks) (r .loads .slots) (r .loads .symbols)
-written p job r ran over =
-    let few : r .loads .count ≤ length (drawsOf job) = ran .few over in
-    let draws : length (drawsOf job) ≤ most-draws = ran .few-draws in
-    let noted : Noted (ran .shown .beside .begun) (r .loads) = ran .shown .noted (omega arith) in
-    record { many = noted .lists .many; at = noted .at; into = noted .lists .into; what = noted .lists .what }
-
-pub fitting : (p : ℕ) (job : List ℕ) (r : Ran) (ran : Planned p job r) → r .over ≡ true
-    → (room : List ℕ) → head-size + event-size * length (drawsOf job) ≤ length room
-    → Fitting (r .loads .count) room (r .loads .ticks) (r .loads .slots) (r .loads .symbols)
-fitting p job r ran over room enough =
-    let few : r .loads .count ≤ length (drawsOf job) = ran .few over in
-    let draws : length (drawsOf job) ≤ most-draws = ran .few-draws in
-    let ticks : length (r .loads .ticks) ≡ most-draws = ran .shown .tick-room in
-    let slots : length (r .loads .slots) ≡ most-draws = ran .shown .whole .slots-room in
-    let symbols : length (r .loads .symbols) ≡ most-draws = ran .shown .whole .symbols-room in
-    record { enough = omega arith; tick-row = omega arith; slot-row = omega arith; symbol-row = omega arith }
+  planned-late late = by-end false late

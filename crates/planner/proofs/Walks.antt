@@ -1,39 +1,39 @@
--- The run of a plan, tick by tick: what the loop of the code keeps, and where it ends.
+-- The run of a plan, tick by tick: the rule it goes by, the loads noted, the waits passed over, and what the loop of the code keeps.
 use Prim.Native.Nat.{ℕ, zero, suc, _+_, _-_, _<_, _≤_}
 use native.Mathlib.Omega.{arith}
 use native.Mathlib.Numerals.{add-one}
 use mathlib.Core.Path.{_≡_, refl, sym, ap, _∙_}
 use mathlib.Core.Bool.{true, false, cond}
-use mathlib.Core.List.{List, [], map}
+use mathlib.Core.List.{List, [], _∷_, map}
 use lib.ListN.{length, take, drop, drop-of-length-le, length-set}
-use lib.Seq.{drop-cons, drop-drop, take-suc-set}
+use lib.Seq.{take-suc-set}
 use lib.Dec.{leb}
-use borrow.Author.Tests.{le-leb, lt-leb}
+use borrow.Author.Tests.{eq-eqb, le-leb, lt-leb}
 use Rattle.rules.specs.declared.Begun.{Begun}
 use Rattle.rules.specs.declared.Begun.the-variants.{Load, NoLoad}
 use Rattle.rules.specs.declared.Happening.{Happening}
 use Rattle.rules.specs.declared.Happening.the-variants.{Draw, Wait}
 use Rattle.rules.specs.declared.TickRecord.{TickRecord}
 use Rattle.rules.specs.declared.Loading.the-variants.{Idle}
-use Rattle.rules.specs.Job.{Job, shapeOf, jobOf, most-slots, most-draws}
+use Rattle.rules.specs.Job.{Job, startingOf, drawsOf, jobOf, most-draws}
 use Rattle.rules.specs.LoadList.{last-tick}
-use Rattle.rules.specs.Display.{State, Run, Rule, Loaded, loaded, going, refused, then, start, land, beginning, happened, recordOf, tick, finished, run}
+use Rattle.rules.specs.Display.{State, Rule, Loaded, loaded, going, refused, then, start, land, idle, beginning, happened, recordOf, tick, finished}
 use Rattle.rules.specs.Plans.{asking, earliest, opt, runPlan, begunIn, ruleOf}
 use Rattle.rules.specs.Refusals.{inTime}
 use Rattle.laws.proofs.Rows.{map-snoc, length-snoc}
 use Rattle.laws.proofs.Moves.{tick-kept, is-more}
-use Rattle.laws.proofs.Runs.{run-finished, run-unfinished}
-use Rattle.sheet.specs.Row.{row64}
-use Rattle.sheet.proofs.Rows.{take-row}
 use Rattle.display.specs.declared.state.Display.{Display}
-use Rattle.display.specs.declared.tick.Outcome.the-variants.{Went, Refused}
 use Rattle.display.specs.declared.tick.Ticked.{Ticked}
 use Rattle.display.specs.View.{Beside, view, besideBegun, besideMade, onward}
-use Rattle.display.specs.Tick.{Counted, nextAfter}
+use Rattle.display.specs.Tick.{Ticks}
+use Rattle.display.specs.Still.{passed, Rested}
+use Rattle.display.proofs.Views.{nearer, under-way}
+use Rattle.display.proofs.Stretches.{Quiet}
+use Rattle.display.proofs.Going.{Going, going-start, going-over, going-late, going-more, going-refused, going-on}
 use Rattle.planner.specs.declared.ask.Order.{Order}
 use Rattle.planner.specs.Asks.{orderAsks, asksBy}
 use Rattle.planner.specs.Loads.{Whole, Noted, loadTick, loadDraw, loadSlot, loadSymbol, notedLoad}
-use Rattle.planner.specs.Runs.{Ticks}
+use Rattle.planner.specs.Runs.{Waits}
 
 -- ---- The rule
 
@@ -48,27 +48,48 @@ same-tick (suc zero) job order s e =
 same-tick (suc (suc zero)) job order s e = refl
 same-tick (suc (suc (suc plan))) job order s e = refl
 
-pub ruled : (plan : ℕ) (job : Job) (order : Order) (d : Display) (r : Ticked)
+pub ruled : (plan : ℕ) (job : Job) (order : Order) (held held′ : List ℕ) (d : Display) (r : Ticked)
     → (plan ≡ 1 → (s : State) → orderAsks order s ≡ earliest (drop (d .loads) (begunIn (runPlan job opt))) s)
-    → Ticks job (asking (asksBy plan job order)) d r → Ticks job (ruleOf job plan) d r
-ruled plan job order d r ordered ticks =
+    → Ticks job (asking (asksBy plan job order)) held held′ d r → Ticks job (ruleOf job plan) held held′ d r
+ruled plan job order held held′ d r ordered ticks =
     record {
       counts = ticks .counts;
-      run = λ h e.
-          ticks .run h e
-          ∙ same-tick plan job order (view (job .slots) h d) (λ one. ordered one (land (view (job .slots) h d)));
+      waits = ticks .waits;
+      run = λ h e. ticks .run h e ∙ same-tick plan job order (view held h d) (λ one. ordered one (land (view held h d)));
+    }
+
+-- While a load is under way no plan asks for another.
+earliest-busy : (l : List Loaded) (s : State) → idle (s .loading) ≡ false → earliest l s ≡ NoLoad
+earliest-busy [] s busy = refl
+earliest-busy (loaded t d q x ∷ later) s busy = rw busy
+
+rule-busy : (plan : ℕ) (job : Job) (s : State) → idle (s .loading) ≡ false → ruleOf job plan .asks s ≡ NoLoad
+rule-busy zero job s busy = rw busy
+rule-busy (suc zero) job s busy = earliest-busy (drop (s .loads) (begunIn (runPlan job opt))) s busy
+rule-busy (suc (suc zero)) job s busy = rw busy
+rule-busy (suc (suc (suc plan))) job s busy = rw busy
+
+-- ---- The waits behind a tick
+
+pub waits-none : (d : Display) → Waits d 0
+waits-none d = record { before-end = λ ends. omega arith; under-way = λ some. absurd (omega arith) }
+
+-- Each tick of the stretch is a wait and no more, whatever the slots hold.
+pub calm : (plan : ℕ) (job : Job) (slots : List ℕ) (h : Beside) (d : Display) (m : ℕ) → Waits d m → (j : ℕ) → j < m
+    → Quiet job (ruleOf job plan) slots h (passed j d)
+calm plan job slots h d m w j less =
+    let some : 0 < d .until = w .under-way (omega arith) in
+    let beyond : d .until - m ≡ 0 → d .until ≡ 0 = w .before-end in
+    let far : (d .until - j - 1 ≡ 0 → ⊥) = λ none. let idle′ : d .until ≡ 0 = beyond (omega arith) in omega arith in
+    record {
+      asks =
+          rule-busy plan job (view slots h (nearer (passed j d)))
+          (ap idle (under-way (d .until - j - 1) (d .into) (d .what) far));
+      far = λ last. far (omega arith);
+      goes-on = λ none. absurd (far (omega arith));
     }
 
 -- ---- The loads noted
-
-begun-rest : (d : Display) (b : Begun) (h : Beside) → besideBegun d b h .rest ≡ h .rest
-begun-rest d NoLoad h = refl
-begun-rest d (Load q x) h = refl
-
-made-rest : (d : Display) (hp : Happening) (h : Beside) (next : ℕ) (draws : List ℕ)
-    → h .rest ≡ drop next draws → besideMade d hp h .rest ≡ drop (nextAfter hp next) draws
-made-rest d (Draw q) h next draws e = ap (λ (l : List ℕ). drop 1 l) e ∙ drop-drop 1 next draws
-made-rest d (Wait cause) h next draws e = e
 
 made-begun : (d : Display) (hp : Happening) (h : Beside) → besideMade d hp h .begun ≡ h .begun
 made-begun d (Draw q) h = refl
@@ -94,17 +115,12 @@ length-noted (Load q x) what at row = length-set row at (what q x)
 
 -- At the loop's head the four rows hold the loads begun so far, as long as there is a place for each.
 pub record Held (l : List Loaded) (count : ℕ) (ticks draws slots symbols : List ℕ) : Type 0 where
-  pub noted : count ≤ most-draws → Noted l (record { count = count; ticks = ticks; draws = draws; slots = slots; symbols = symbols })
-  pub tick-room : length ticks ≡ most-draws
-  pub whole : Whole draws slots symbols
+  pub noted : count ≤ most-draws → Noted l count ticks draws slots symbols
+  pub whole : Whole ticks draws slots symbols
 
-pub held-start : (ticks draws slots symbols : List ℕ) → length ticks ≡ most-draws → Whole draws slots symbols → Held [] 0 ticks draws slots symbols
-held-start ticks draws slots symbols room whole =
-    record {
-      noted = λ few. record { lists = record { many = refl; for = refl; into = refl; what = refl }; at = refl };
-      tick-room = room;
-      whole = whole;
-    }
+pub held-start : (ticks draws slots symbols : List ℕ) → Whole ticks draws slots symbols → Held [] 0 ticks draws slots symbols
+held-start ticks draws slots symbols whole =
+    record { noted = λ few. record { many = refl; at = refl; for = refl; into = refl; what = refl }; whole = whole }
 
 held-more : (d : Display) (b : Begun) (h : Beside) (m′ : ℕ) (ticks draws slots symbols ticks′ draws′ slots′ symbols′ : List ℕ)
     → length (h .begun) ≡ d .loads
@@ -117,28 +133,27 @@ held-more : (d : Display) (b : Begun) (h : Beside) (m′ : ℕ) (ticks draws slo
     → Held (h .begun) (d .loads) ticks draws slots symbols
     → Held (besideBegun d b h .begun) m′ ticks′ draws′ slots′ symbols′
 held-more d b h m′ ticks draws slots symbols ticks′ draws′ slots′ symbols′ many many′ more e₁ e₂ e₃ e₄ held =
-    let r₁ : length ticks ≡ most-draws = held .tick-room in
+    let r₁ : length ticks ≡ most-draws = held .whole .ticks-room in
     let r₂ : length draws ≡ most-draws = held .whole .draws-room in
     let r₃ : length slots ≡ most-draws = held .whole .slots-room in
     let r₄ : length symbols ≡ most-draws = held .whole .symbols-room in
     record {
       noted = λ few.
-          let before : Noted (h .begun) (record { count = d .loads; ticks = ticks; draws = draws; slots = slots; symbols = symbols }) = held .noted (omega arith) in
+          let before : Noted (h .begun) (d .loads) ticks draws slots symbols = held .noted (omega arith) in
           record {
-            lists = record {
-              many = many′;
-              for = rw e₂ (row-more loadDraw (λ q x. d .next) d b h (d .loads) m′ draws (λ q x. refl) many many′ (omega arith) (before .lists .for));
-              into = rw e₃ (row-more loadSlot (λ q x. q) d b h (d .loads) m′ slots (λ q x. refl) many many′ (omega arith) (before .lists .into));
-              what = rw e₄ (row-more loadSymbol (λ q x. x) d b h (d .loads) m′ symbols (λ q x. refl) many many′ (omega arith) (before .lists .what));
-            };
+            many = many′;
             at = rw e₁ (row-more loadTick (λ q x. d .tick) d b h (d .loads) m′ ticks (λ q x. refl) many many′ (omega arith) (before .at));
+            for = rw e₂ (row-more loadDraw (λ q x. d .next) d b h (d .loads) m′ draws (λ q x. refl) many many′ (omega arith) (before .for));
+            into = rw e₃ (row-more loadSlot (λ q x. q) d b h (d .loads) m′ slots (λ q x. refl) many many′ (omega arith) (before .into));
+            what = rw e₄ (row-more loadSymbol (λ q x. x) d b h (d .loads) m′ symbols (λ q x. refl) many many′ (omega arith) (before .what));
           };
-      tick-room = rw e₁ (length-noted b (λ q x. d .tick) (d .loads) ticks ∙ r₁);
-      whole = record {
-        draws-room = rw e₂ (length-noted b (λ q x. d .next) (d .loads) draws ∙ r₂);
-        slots-room = rw e₃ (length-noted b (λ q x. q) (d .loads) slots ∙ r₃);
-        symbols-room = rw e₄ (length-noted b (λ q x. x) (d .loads) symbols ∙ r₄);
-      };
+      whole =
+          record {
+            ticks-room = rw e₁ (length-noted b (λ q x. d .tick) (d .loads) ticks ∙ r₁);
+            draws-room = rw e₂ (length-noted b (λ q x. d .next) (d .loads) draws ∙ r₂);
+            slots-room = rw e₃ (length-noted b (λ q x. q) (d .loads) slots ∙ r₃);
+            symbols-room = rw e₄ (length-noted b (λ q x. x) (d .loads) symbols ∙ r₄);
+          };
     }
 
 begun-grows : (d : Display) (b : Begun) (h : Beside) → length (h .begun) ≤ length (besideBegun d b h .begun)
@@ -164,63 +179,36 @@ held-on d t h m′ ticks draws slots symbols ticks′ draws′ slots′ symbols�
 
 -- ---- The run
 
--- What holds at the loop's head, with h beside the display: the ticks that are left lead where the whole run leads.
-pub record Walking (job : Job) (rule : Rule) (d : Display) (left : ℕ) (h : Beside) : Type 0 where
-  pub whole : run job rule left (view (job .slots) h d) ≡ runPlan job rule
-  pub rest : h .rest ≡ drop (d .next) (job .draws)
+-- What holds at the loop's head, with h beside the display: the run is on its way, and each load that was begun is counted.
+pub record Walking (job : Job) (rule : Rule) (held : List ℕ) (d : Display) (h : Beside) : Type 0 where
+  pub along : Going job rule last-tick held d h
   pub listed : length (h .begun) ≡ d .loads
-  pub clock : d .tick + left ≡ last-tick
-  pub waits : d .waits ≤ d .tick
-  pub loads : d .loads ≤ d .tick
-  pub few : d .next ≤ length (job .draws)
 
-more-left : (rest : List ℕ) (next : ℕ) (draws : List ℕ) → rest ≡ drop next draws → next < length draws → finished rest ≡ false
-more-left rest next draws e h = ap finished (e ∙ drop-cons draws next 0 h)
-
-none-left : (rest : List ℕ) (next : ℕ) (draws : List ℕ) → rest ≡ drop next draws → length draws ≤ next → finished rest ≡ true
-none-left rest next draws e h = ap finished (e ∙ drop-of-length-le draws h)
-
-next-within : (hp : Happening) (next n : ℕ) → next < n → nextAfter hp next ≤ n
-next-within (Draw q) next n h = omega arith
-next-within (Wait cause) next n h = omega arith
-
--- The display at the start, with all draws beside it.
+-- Nothing is drawn and nothing begun.
 abbrev pub before-all : Job → Beside
 before-all job = record { rest = job .draws; made = []; begun = [] }
 
-startWith : Job → List ℕ → State
-startWith job slots =
-    record { tick = 0; next = 0; rest = job .draws; slots = slots; loading = Idle; waits = 0; loads = 0; made = []; begun = [] }
+startWith : List ℕ → List ℕ → State
+startWith draws slots =
+    record { tick = 0; next = 0; rest = draws; slots = slots; loading = Idle; waits = 0; loads = 0; made = []; begun = [] }
 
-pub starts : (job : List ℕ) (k : ℕ) (slots : List ℕ) (d : Display)
-    → k ≡ shapeOf job .slots
-    → k ≤ most-slots
-    → slots ≡ row64 k job
-    → d ≡ record { tick = 0; next = 0; waits = 0; loads = 0; loading = Idle; slots = slots }
-    → view (shapeOf job .slots) (before-all (jobOf job)) d ≡ start (jobOf job)
+pub walking-first : (job : List ℕ) (rule : Rule) (held : List ℕ) (d : Display)
+    → held ≡ startingOf job
+    → d ≡ record { tick = 0; waits = 0; loads = 0; next = 0; until = 0; into = 0; what = 0 }
+    → Walking (jobOf job) rule held d (before-all (jobOf job))
 unfolding startWith
-starts job k slots d same few filled started =
-    ap (view (shapeOf job .slots) (before-all (jobOf job))) started
-    ∙ ap (startWith (jobOf job))
-    (rw (← same) (ap (λ (l : List ℕ). take k l) filled ∙ take-row k job few))
+walking-first job rule held d starts fresh =
+    let begins : view held (before-all (jobOf job)) d ≡ start (jobOf job) =
+    ap (view held (before-all (jobOf job))) fresh ∙ ap (startWith (drawsOf job)) starts in
+    record {
+      along = going-start (jobOf job) rule last-tick held d (before-all (jobOf job)) begins;
+      listed = sym (ap (λ (s : State). s .loads) begins);
+    }
+
+none-left : (rest : List ℕ) (next : ℕ) (draws : List ℕ) → rest ≡ drop next draws → length draws ≤ next → finished rest ≡ true
+none-left rest next draws e over = ap finished (e ∙ drop-of-length-le draws over)
 
 module _ (job : Job) (rule : Rule) where
-  pub walking-start : (d : Display) (h : Beside) → view (job .slots) h d ≡ start job → Walking job rule d last-tick h
-  walking-start d h e =
-      let no-tick : d .tick ≡ 0 = ap (λ (s : State). s .tick) e in
-      let no-next : d .next ≡ 0 = ap (λ (s : State). s .next) e in
-      let no-wait : d .waits ≡ 0 = ap (λ (s : State). s .waits) e in
-      let no-load : d .loads ≡ 0 = ap (λ (s : State). s .loads) e in
-      record {
-        whole = ap (run job rule last-tick) e;
-        rest = ap (λ (s : State). s .rest) e ∙ rw no-next;
-        listed = ap (λ (s : State). length (s .begun)) e ∙ sym no-load;
-        clock = omega arith;
-        waits = omega arith;
-        loads = omega arith;
-        few = omega arith;
-      }
-
   -- Each load that is begun is counted.
   listed-kept : (s s′ : State) → 0 < length (s .rest) → length (s .begun) ≡ s .loads → tick job rule s ≡ going s′ → length (s′ .begun) ≡ s′ .loads
   listed-kept s s′ more e ticked =
@@ -233,67 +221,41 @@ module _ (job : Job) (rule : Rule) where
         waits = λ z f p. p;
       }) s s′ more e ticked
 
-  module _ (d : Display) (left : ℕ) (h : Beside) (w : Walking job rule d left h) where
-    abbrev here : State
-    here = view (job .slots) h d
-
+  module _ (held : List ℕ) (d : Display) (h : Beside) (w : Walking job rule held d h) where
     -- The loop ends where no draw remains, where no tick is left, or where a tick is refused.
     pub ends-over : length (job .draws) ≤ d .next
-        → inTime (runPlan job rule) ≡ cond (leb (length (job .draws)) (d .next)) (going (view (job .slots) h d)) (refused 15 0)
+        → inTime (runPlan job rule) ≡ cond (leb (length (job .draws)) (d .next)) (going (view held h d)) (refused 15 0)
     ends-over over =
-        let done : finished (h .rest) ≡ true = none-left (h .rest) (d .next) (job .draws) (w .rest) over in
-        ap inTime (sym (w .whole) ∙ run-finished job rule left here done) ∙ rw (done, le-leb (length (job .draws)) (d .next) over)
+        ap inTime (going-over job rule last-tick held d h (w .along) over)
+        ∙ rw (none-left (h .rest) (d .next) (job .draws) (w .along .rest) over, le-leb (length (job .draws)) (d .next) over)
 
     module _ (within : d .next < length (job .draws)) where
-      going-on : finished (h .rest) ≡ false
-      going-on = more-left (h .rest) (d .next) (job .draws) (w .rest) within
+      pub ends-late : last-tick ≤ d .tick
+          → inTime (runPlan job rule) ≡ cond (leb (length (job .draws)) (d .next)) (going (view held h d)) (refused 15 0)
+      ends-late late =
+          ap inTime (going-late job rule last-tick held d h (w .along) late)
+          ∙ rw (going-more job rule last-tick held d h (w .along) within, lt-leb (length (job .draws)) (d .next) within)
 
-      pub ends-late : left ≡ 0
-          → inTime (runPlan job rule) ≡ cond (leb (length (job .draws)) (d .next)) (going (view (job .slots) h d)) (refused 15 0)
-      unfolding run
-      ends-late none =
-          let stops : run job rule left here ≡ going here = rw none in
-          ap inTime (sym (w .whole) ∙ stops) ∙ rw (going-on, lt-leb (length (job .draws)) (d .next) within)
-
-      module _ (some : 0 < left) where
-        steps : run job rule left here ≡ then (tick job rule here) (run job rule (left - 1))
-        steps =
-            let one-more : left ≡ suc (left - 1) = omega arith in
-            ap (λ (t : ℕ). run job rule t here) one-more ∙ run-unfinished job rule (left - 1) here going-on
-
-        pub ends-refused : (r : Ticked) (number detail : ℕ) → Ticks job rule d r → r .outcome ≡ Refused number detail
-            → inTime (runPlan job rule) ≡ cond (leb (length (job .draws)) (d .next)) (going (view (job .slots) h d)) (refused 15 0)
-        ends-refused r number detail ticks out =
-            let halts : refused number detail ≡ tick job rule here = rw out at (ticks .run h (w .rest)) in
-            ap inTime (sym (w .whole) ∙ steps ∙ ap (λ (x : Run). then x (run job rule (left - 1))) (sym halts))
+      module _ (early : d .tick < last-tick) (held′ : List ℕ) (r : Ticked) (ticks : Ticks job rule held held′ d r) where
+        pub ends-refused : (r .number ≡ 0 → ⊥)
+            → inTime (runPlan job rule) ≡ cond (leb (length (job .draws)) (d .next)) (going (view held h d)) (refused 15 0)
+        ends-refused some =
+            ap inTime (going-refused job rule last-tick held d h (w .along) within early held′ r ticks some)
             ∙ rw (lt-leb (length (job .draws)) (d .next) within)
 
-        -- Otherwise it goes on with a tick less left.
-        module _ (r : Ticked) (t : TickRecord) (ticks : Ticks job rule d r) (out : r .outcome ≡ Went t) where
-          leads-on : going (view (job .slots) (onward d t h) (r .display)) ≡ tick job rule here
-          leads-on = rw out at (ticks .run h (w .rest))
+        -- Otherwise it goes on, behind the waits that follow the tick.
+        module _ (went : r .number ≡ 0) (later : Display)
+            (rested : Rested (Waits (r .display)) last-tick (r .on_record .happening) (r .display) later)
+            (still : (m : ℕ) → Waits (r .display) m → (j : ℕ) → j < m → Quiet job rule held′ (onward d (r .on_record) h) (passed j (r .display))) where
+          leads-on : going (view held′ (onward d (r .on_record) h) (r .display)) ≡ tick job rule (view held h d)
+          leads-on = rw (eq-eqb (r .number) 0 went) at (ticks .run h (w .along .rest))
 
-          counts : Counted 1 (t .happening) d (r .display)
-          counts = rw out at (ticks .counts)
-
-          pub walking-on : Walking job rule (r .display) (left - 1) (onward d t h)
+          pub walking-on : Walking job rule held′ later (onward d (r .on_record) h)
           walking-on =
-              let later-tick : r .display .tick ≡ d .tick + 1 = counts .tick in
-              let later-waits : r .display .waits ≤ d .waits + 1 = counts .waits in
-              let later-loads : r .display .loads ≤ d .loads + 1 = counts .loads in
-              let later-next : r .display .next ≡ nextAfter (t .happening) (d .next) = counts .next in
-              let time : d .tick + left ≡ last-tick = w .clock in
-              let few-waits : d .waits ≤ d .tick = w .waits in
-              let few-loads : d .loads ≤ d .tick = w .loads in
               record {
-                whole = ap (λ (x : Run). then x (run job rule (left - 1))) leads-on ∙ sym steps ∙ w .whole;
-                rest =
-                    made-rest d (t .happening) (besideBegun d (t .begun) h) (d .next) (job .draws) (begun-rest d (t .begun) h ∙ w .rest)
-                    ∙ ap (λ (n : ℕ). drop n (job .draws)) (sym later-next);
+                along = going-on job rule last-tick held d h (w .along) within early held′ r ticks went (Waits (r .display)) later rested still;
                 listed =
-                    listed-kept here (view (job .slots) (onward d t h) (r .display)) (is-more (h .rest) going-on) (w .listed) (sym leads-on);
-                clock = omega arith;
-                waits = omega arith;
-                loads = omega arith;
-                few = rw later-next (next-within (t .happening) (d .next) (length (job .draws)) within);
+                    listed-kept (view held h d) (view held′ (onward d (r .on_record) h) (r .display))
+                    (is-more (h .rest) (going-more job rule last-tick held d h (w .along) within)) (w .listed) (sym leads-on)
+                    ∙ sym (ap (λ (e : Display). e .loads) (rested .passes));
               }

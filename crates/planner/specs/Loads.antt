@@ -8,7 +8,6 @@ use Rattle.rules.specs.declared.Begun.the-variants.{Load, NoLoad}
 use Rattle.rules.specs.Job.{most-draws}
 use Rattle.rules.specs.LoadList.{head-size, event-size}
 use Rattle.rules.specs.Display.{Loaded, loaded}
-use Rattle.planner.specs.declared.loads.Loads.{Loads}
 
 abbrev pub loadTick : Loaded → ℕ
 loadTick (loaded t d q x) = t
@@ -23,22 +22,30 @@ abbrev pub loadSymbol : Loaded → ℕ
 loadSymbol (loaded t d q x) = x
 
 -- Rows of as many places as a job has draws at most.
-pub record Whole (draws slots symbols : List ℕ) : Type 0 where
+pub record Whole (ticks draws slots symbols : List ℕ) : Type 0 where
+  pub ticks-room : length ticks ≡ most-draws
   pub draws-room : length draws ≡ most-draws
   pub slots-room : length slots ≡ most-draws
   pub symbols-room : length symbols ≡ most-draws
 
--- The loads of a list stand at the front of the rows: what conservative reads of them.
-pub record Lists (l : List Loaded) (count : ℕ) (draws slots symbols : List ℕ) : Type 0 where
+-- Rows of as many draws that missed as slots and symbols.
+pub record Even (misses into what : List ℕ) : Type 0 where
+  pub slots-too : length into ≡ length misses
+  pub symbols-too : length what ≡ length misses
+
+-- The loads of a list as conservative reads them.
+pub record Lists (l : List Loaded) (misses into what : List ℕ) : Type 0 where
+  pub for : map loadDraw l ≡ misses
+  pub slots : map loadSlot l ≡ into
+  pub symbols : map loadSymbol l ≡ what
+
+-- The loads of a list stand at the front of the four rows.
+pub record Noted (l : List Loaded) (count : ℕ) (ticks draws slots symbols : List ℕ) : Type 0 where
   pub many : length l ≡ count
+  pub at : map loadTick l ≡ take count ticks
   pub for : map loadDraw l ≡ take count draws
   pub into : map loadSlot l ≡ take count slots
   pub what : map loadSymbol l ≡ take count symbols
-
--- The same with the ticks.
-pub record Noted (l : List Loaded) (loads : Loads) : Type 0 where
-  pub lists : Lists l (loads .count) (loads .draws) (loads .slots) (loads .symbols)
-  pub at : map loadTick l ≡ take (loads .count) (loads .ticks)
 
 -- A row with what a tick brings for the load at a place: nothing where none begins.
 abbrev pub notedLoad : Begun → (ℕ → ℕ → ℕ) → ℕ → List ℕ → List ℕ

@@ -1,6 +1,4 @@
 // A plan of a job: its refusals in their order, its run, and its list in the lent room.
-use crate::loads::Loads;
-use crate::loads::no_loads;
 use crate::row::row_of;
 use crate::run::Ran;
 use crate::run::run_plan;
@@ -11,11 +9,12 @@ use rules::Shape;
 ghost use mathlib.Core.Path.{_≡_};
 ghost use lib.ListN.{length};
 ghost use Rattle.rules.specs.declared.JobReading.the-variants.{Taken};
-ghost use Rattle.rules.specs.Job.{jobOf, drawsOf};
+ghost use Rattle.rules.specs.Job.{drawsOf};
 ghost use Rattle.rules.specs.Display.{refused};
 ghost use Rattle.rules.specs.Refusals.{readJob, jobNumber, planned, answerOf, writtenBy, lent};
 ghost use Rattle.planner.specs.Asks.{rowOf};
-ghost use Rattle.planner.specs.Runs.{Ordered, Planned};
+ghost use Rattle.planner.specs.Loads.{Whole};
+ghost use Rattle.planner.specs.Runs.{Given, Planned};
 
 fn refusal(number: u32) -> Answer
     ensures { λ r. ⌜ r ≡ answerOf (refused number 0) ⌝ }
@@ -39,28 +38,118 @@ fn refusal_of(reading: JobReading) -> Answer
     }
 }
 
-// The loads that a plan works off: conservative takes those of opt, slots and all.
-fn orders_of(plan: u32, job: &[u8], shape: Shape, row: &[u16]) -> Loads
-    requires { ⌜ (readJob (now job) ≡ Taken shape) × (rowOf plan (drawsOf (now job)) ≡ now row) ⌝ }
-    ensures { λ r. ⌜ Ordered plan (now (job .entry)) r ⌝ }
+// The run of a plan from the start of the job.
+fn run_from(
+    plan: u32,
+    job: &[u8],
+    shape: Shape,
+    row: &[u16],
+    misses: &[u16],
+    into: &[u8],
+    what: &[u16],
+    ticks: &mut [u32],
+    draws: &mut [u16],
+    slots: &mut [u8],
+    symbols: &mut [u16],
+) -> Ran
+    requires { ⌜ (readJob (now job) ≡ Taken shape) × (rowOf plan (drawsOf (now job)) ≡ now row) × Given plan (now job) (now misses) (now into) (now what) × Whole (now ticks) (now draws) (now slots) (now symbols) ⌝ }
+    ensures { λ r. ⌜ Planned plan (now (job .entry)) r (now (ticks .exit)) (now (draws .exit)) (now (slots .exit)) (now (symbols .exit)) ⌝ }
 {
-    if plan == 1 {
-        let ran = run_plan(2, job, shape, row, no_loads());
-        let loads = ran.loads;
-        return loads;
-    }
-    no_loads()
+    let mut held = sheet::starting_slots(job, shape.slots);
+    let k = shape.slots as usize;
+    run_plan(
+        plan,
+        job,
+        shape,
+        row,
+        &mut held[..k],
+        misses,
+        into,
+        what,
+        ticks,
+        draws,
+        slots,
+        symbols,
+    )
+}
+
+// The run of conservative: it works off the loads that opt begins, slots and all.
+fn run_conservative(
+    job: &[u8],
+    shape: Shape,
+    row: &[u16],
+    ticks: &mut [u32],
+    draws: &mut [u16],
+    slots: &mut [u8],
+    symbols: &mut [u16],
+) -> Ran
+    requires { ⌜ (readJob (now job) ≡ Taken shape) × (drawsOf (now job) ≡ now row) × Whole (now ticks) (now draws) (now slots) (now symbols) ⌝ }
+    ensures { λ r. ⌜ Planned 1 (now (job .entry)) r (now (ticks .exit)) (now (draws .exit)) (now (slots .exit)) (now (symbols .exit)) ⌝ }
+{
+    let mut misses = [0; 4096];
+    let mut into = [0; 4096];
+    let mut what = [0; 4096];
+    let opt = run_from(
+        2,
+        job,
+        shape,
+        row,
+        &[],
+        &[],
+        &[],
+        ticks,
+        &mut misses,
+        &mut into,
+        &mut what,
+    );
+    let d = opt.display;
+    let count = d.loads as usize;
+    run_from(
+        1,
+        job,
+        shape,
+        row,
+        &misses[..count],
+        &into[..count],
+        &what[..count],
+        ticks,
+        draws,
+        slots,
+        symbols,
+    )
 }
 
 // The run of a plan of a job that was taken.
-fn run_of(plan: u32, job: &[u8], shape: Shape) -> Ran
-    requires { ⌜ readJob (now job) ≡ Taken shape ⌝ }
-    ensures { λ r. ⌜ Planned plan (now (job .entry)) r ⌝ }
+fn run_of(
+    plan: u32,
+    job: &[u8],
+    shape: Shape,
+    ticks: &mut [u32],
+    draws: &mut [u16],
+    slots: &mut [u8],
+    symbols: &mut [u16],
+) -> Ran
+    requires { ⌜ (readJob (now job) ≡ Taken shape) × Whole (now ticks) (now draws) (now slots) (now symbols) ⌝ }
+    ensures { λ r. ⌜ Planned plan (now (job .entry)) r (now (ticks .exit)) (now (draws .exit)) (now (slots .exit)) (now (symbols .exit)) ⌝ }
 {
     let row = row_of(plan, job, shape.slots, shape.draws);
     let count = shape.draws as usize;
-    let orders = orders_of(plan, job, shape, &row[..count]);
-    run_plan(plan, job, shape, &row[..count], orders)
+    if plan == 1 {
+        return run_conservative(job, shape, &row[..count], ticks, draws, slots, symbols);
+    }
+    run_from(
+        plan,
+        job,
+        shape,
+        &row[..count],
+        &[],
+        &[],
+        &[],
+        ticks,
+        draws,
+        slots,
+        symbols,
+    )
 }
 
 // Plans the job and writes the list from the room's first byte on. Nothing is written before the last refusal is past.
@@ -78,14 +167,22 @@ pub fn plan(job: &[u8], plan: u32, room: &mut [u8]) -> Answer
     if room.len() < 7 + 7 * shape.draws as usize {
         return refusal(7);
     }
-    let ran = run_of(plan, job, shape);
+    let mut ticks = [0; 4096];
+    let mut draws = [0; 4096];
+    let mut slots = [0; 4096];
+    let mut symbols = [0; 4096];
+    let ran = run_of(
+        plan,
+        job,
+        shape,
+        &mut ticks,
+        &mut draws,
+        &mut slots,
+        &mut symbols,
+    );
     if ran.over {
-        let loads = ran.loads;
-        let ticks = loads.ticks;
-        let slots = loads.slots;
-        let symbols = loads.symbols;
-        write_list(room, loads.count as u16, &ticks, &slots, &symbols);
         let d = ran.display;
+        write_list(room, d.loads as u16, &ticks, &slots, &symbols);
         return Answer {
             number: 0,
             detail: 0,

@@ -5,7 +5,6 @@ use crate::search::missing;
 use display::Display;
 use display::find;
 use rules::Begun;
-use rules::Loading;
 ghost use mathlib.Core.Path.{_≡_};
 ghost use mathlib.Core.List.{List};
 ghost use Prim.Native.Nat.{ℕ, _≤_, _<_};
@@ -113,23 +112,21 @@ fn look_from(plan: u32, draws: usize, next: u16) -> usize
 }
 
 // What the plan asks for in this tick. Where a load is under way nothing is looked for.
-pub fn asked_of(plan: u32, d: Display, k: u8, row: &[u16], symbol: u16, order: Order) -> Begun
-    requires { ⌜ (1 ≤ k) × (k ≤ 64) × (length (now row) ≤ 4096) × (d .next ≤ length (now row)) ⌝ }
-    ensures { λ r. ⌜ ((h : Beside) (job : Job) → rowOf plan (job .draws) ≡ now (row .entry) → h .rest ≡ drop (d .next) (job .draws) → awaited (view k h d) ≡ symbol → r ≡ asksBy plan job order (view k h d)) ⌝ }
+pub fn asked_of(
+    plan: u32,
+    slots: &[u16],
+    d: Display,
+    row: &[u16],
+    symbol: u16,
+    order: Order,
+) -> Begun
+    requires { ⌜ Searched (now slots) (now row) × (d .next ≤ length (now row)) ⌝ }
+    ensures { λ r. ⌜ ((h : Beside) (job : Job) → rowOf plan (job .draws) ≡ now (row .entry) → h .rest ≡ drop (d .next) (job .draws) → awaited (view (now (slots .entry)) h d) ≡ symbol → r ≡ asksBy plan job order (view (now (slots .entry)) h d)) ⌝ }
 {
-    let loading = d.loading;
-    match loading {
-        Loading::Under {
-            left: _,
-            slot: _,
-            symbol: _,
-        } => Begun::NoLoad,
-        Loading::Idle => {
-            let next = d.next;
-            let from = look_from(plan, row.len(), next);
-            let slots = d.slots;
-            let count = k as usize;
-            choose(plan, &slots[..count], &row[from..], next, symbol, order)
-        }
+    if d.until != 0 {
+        return Begun::NoLoad;
     }
+    let next = d.next;
+    let from = look_from(plan, row.len(), next);
+    choose(plan, slots, &row[from..], next, symbol, order)
 }

@@ -1,56 +1,95 @@
 // One tick of a plan, and the run of a plan to its end.
 use crate::ask::Order;
 use crate::ask::asked_of;
-use crate::loads::Loads;
 use crate::loads::note;
 use crate::loads::order_at;
 use display::Display;
-use display::Outcome;
 use display::Ticked;
-use display::advance;
+use display::before_end;
+use display::begin;
 use display::land;
+use display::load_number;
+use display::pass;
+use display::refused_load;
+use display::settle;
+use display::smaller;
 use display::start;
+use rules::Happening;
 use rules::Shape;
 ghost use mathlib.Core.Path.{_≡_};
 ghost use Prim.Native.Nat.{_≤_, _<_};
-ghost use Rattle.rules.specs.Job.{shapeOf, jobOf, drawsOf};
+ghost use lib.ListN.{length};
+ghost use Rattle.rules.specs.Job.{jobOf, drawsOf};
+ghost use Rattle.rules.specs.LoadList.{last-tick};
 ghost use Rattle.rules.specs.Plans.{asking, runPlan, ruleOf};
-ghost use Rattle.display.specs.Tick.{Room};
+ghost use Rattle.display.specs.Tick.{Room, Ticks};
+ghost use Rattle.display.specs.Still.{Rested};
 ghost use Rattle.planner.specs.Asks.{asksBy, rowOf};
-ghost use Rattle.planner.specs.Runs.{Limits, Ticks, Ready, Shown};
+ghost use Rattle.planner.specs.Loads.{Whole};
+ghost use Rattle.planner.specs.Runs.{Limits, Waits, Ready, Shown};
 
-// One tick of a plan, while draws remain: land, ask, advance.
-fn plan_tick(plan: u32, job: &[u8], shape: Shape, row: &[u16], d: Display, order: Order) -> Ticked
-    requires { ⌜ Limits (now job) shape × (rowOf plan (drawsOf (now job)) ≡ now row) × Room d × (d .loads < 4294967295) × (d .next < shape .draws) ⌝ }
-    ensures { λ r. ⌜ Ticks (jobOf (now (job .entry))) (asking (asksBy plan (jobOf (now (job .entry))) order)) d r ⌝ }
+// One tick of a plan, while draws remain: land, begin what the plan asks for, then draw or wait.
+fn plan_tick(
+    plan: u32,
+    job: &[u8],
+    shape: Shape,
+    row: &[u16],
+    held: &mut [u16],
+    d: Display,
+    order: Order,
+) -> Ticked
+    requires { ⌜ Limits (now job) shape × (rowOf plan (drawsOf (now job)) ≡ now row) × (length (now held) ≡ shape .slots) × Room d × (d .loads < 4294967295) × (d .next < shape .draws) ⌝ }
+    ensures { λ r. ⌜ Ticks (jobOf (now (job .entry))) (asking (asksBy plan (jobOf (now (job .entry))) order)) (now (held .entry)) (now (held .exit)) d r ⌝ }
 {
-    let landed = land(d);
+    let landed = land(held, d);
     let symbol = sheet::draw_symbol(job, shape.slots, landed.next);
-    let asked = asked_of(plan, landed, shape.slots, row, symbol, order);
-    advance(landed, shape.slots, shape.time, asked, symbol, true)
+    let asked = asked_of(plan, held, landed, row, symbol, order);
+    let number = load_number(held, landed, asked);
+    if number != 0 {
+        return refused_load(landed, number);
+    }
+    let begun = begin(held, landed, shape.time, asked);
+    settle(held, begun, asked, symbol, true)
 }
 
-// How a run ended: whether every draw was made, the display at the end, and the loads that were begun.
+// The display behind the waits that follow a tick in which this happened: while a load is under way no plan asks for anything, so all
+// ticks up to its end are passed over at once.
+fn rest_of(d: Display, happening: Happening) -> Display
+    requires { ⌜ (d .tick ≤ last-tick) × (d .waits ≤ d .tick) ⌝ }
+    ensures { λ r. ⌜ Rested (Waits d) last-tick happening d r ⌝ }
+{
+    match happening {
+        Happening::Draw { slot: _ } => d,
+        Happening::Wait(_) => pass(d, smaller(8388607 - d.tick, before_end(d))),
+    }
+}
+
+// How a run ended: whether every draw was made, and the display at the end.
 pub struct Ran {
     pub over: bool,
     pub display: Display,
-    pub loads: Loads,
 }
 
-// The run of a plan to its last draw, or to the last tick that a list can name. For conservative, `orders` are the loads of opt.
-pub fn run_plan(plan: u32, job: &[u8], shape: Shape, row: &[u16], orders: Loads) -> Ran
-    requires { ⌜ Ready plan (now job) shape (now row) orders ⌝ }
-    ensures { λ r. ⌜ Shown (shapeOf (now (job .entry)) .slots) (runPlan (jobOf (now (job .entry))) (ruleOf (jobOf (now (job .entry))) plan)) r ⌝ }
+// The run of a plan from the slots as they start to its last draw, or to the last tick that a list can name. For conservative `misses`,
+// `into` and `what` are the loads of opt. The loads that it begins are noted in the last four rows.
+pub fn run_plan(
+    plan: u32,
+    job: &[u8],
+    shape: Shape,
+    row: &[u16],
+    held: &mut [u16],
+    misses: &[u16],
+    into: &[u8],
+    what: &[u16],
+    ticks: &mut [u32],
+    draws: &mut [u16],
+    slots: &mut [u8],
+    symbols: &mut [u16],
+) -> Ran
+    requires { ⌜ Ready plan (now job) shape (now row) (now held) (now misses) (now into) (now what) × Whole (now ticks) (now draws) (now slots) (now symbols) ⌝ }
+    ensures { λ r. ⌜ Shown (runPlan (jobOf (now (job .entry))) (ruleOf (jobOf (now (job .entry))) plan)) r (now (ticks .exit)) (now (draws .exit)) (now (slots .exit)) (now (symbols .exit)) ⌝ }
 {
-    let misses = orders.draws;
-    let into = orders.slots;
-    let what = orders.symbols;
-    let mut ticks = [0; 4096];
-    let mut draws = [0; 4096];
-    let mut slots = [0; 4096];
-    let mut symbols = [0; 4096];
-    let mut d = start(sheet::starting_slots(job, shape.slots));
-    let mut left: u32 = 8388607;
+    let mut d = start();
     loop {
         let tick = d.tick;
         let next = d.next;
@@ -58,46 +97,23 @@ pub fn run_plan(plan: u32, job: &[u8], shape: Shape, row: &[u16], orders: Loads)
         if shape.draws <= next {
             break;
         }
-        if left == 0 {
+        if 8388607 <= tick {
             break;
         }
-        let order = order_at(at, orders.count, &misses, &into, &what);
-        let ticked = plan_tick(plan, job, shape, row, d, order);
-        let outcome = ticked.outcome;
-        match outcome {
-            Outcome::Refused {
-                number: _,
-                detail: _,
-            } => {
-                break;
-            }
-            Outcome::Went(record) => {
-                let begun = record.begun;
-                note(
-                    &mut ticks,
-                    &mut draws,
-                    &mut slots,
-                    &mut symbols,
-                    at,
-                    tick,
-                    next,
-                    begun,
-                );
-                let later = ticked.display;
-                d = later;
-                left -= 1;
-            }
+        let order = order_at(at, misses, into, what);
+        let ticked = plan_tick(plan, job, shape, row, held, d, order);
+        if ticked.number != 0 {
+            break;
         }
+        let on_record = ticked.on_record;
+        let begun = on_record.begun;
+        let happening = on_record.happening;
+        note(ticks, draws, slots, symbols, at, tick, next, begun);
+        let later = ticked.display;
+        d = rest_of(later, happening);
     }
     Ran {
         over: shape.draws <= d.next,
         display: d,
-        loads: Loads {
-            count: d.loads,
-            ticks,
-            draws,
-            slots,
-            symbols,
-        },
     }
 }

@@ -1,12 +1,13 @@
 -- The 64 slots of a display, filled from the front with the starting symbols of a job.
 use Prim.Native.Nat.{ℕ, zero, suc, _+_, _*_, _-_, _<_, _≤_, min}
 use native.Mathlib.Omega.{arith}
-use mathlib.Core.Path.{_≡_, refl, sym, _∙_}
+use mathlib.Core.Path.{_≡_, refl, sym, ap, _∙_}
 use mathlib.Core.List.{List, [], _∷_, _++_}
 use lib.ListN.{length, take, drop, set, replicate, length-replicate, length-append}
 use lib.Seq.{take-at, set-at, append-snoc}
 use Rattle.rules.specs.Basics.{number16}
-use Rattle.rules.specs.Job.{symbols, starting-at, free}
+use Rattle.rules.specs.declared.Shape.{Shape}
+use Rattle.rules.specs.Job.{symbols, starting-at, free, shapeOf, startingOf}
 use Rattle.laws.proofs.Symbols.{length-symbols, number16-drop}
 use Rattle.sheet.specs.Row.{row64}
 
@@ -49,3 +50,11 @@ pub take-row : (k : ℕ) (job : List ℕ) → k ≤ 64 → take k (row64 k job) 
 take-row k job h =
     let few : min k 64 ≡ k = omega arith in
     rw few (take-at (symbols k (drop 10 job)) (replicate (64 - k) free) k (length-symbols k (drop 10 job)))
+
+-- The slots that a job of this shape uses hold its starting symbols.
+pub row-starts : (job : List ℕ) (shape : Shape) (row : List ℕ) → shape ≡ shapeOf job → shape .slots ≤ 64 → row ≡ row64 (shape .slots) job
+    → take (shape .slots) row ≡ startingOf job
+row-starts job shape row shaped few filled =
+    ap (λ (l : List ℕ). take (shape .slots) l) filled
+    ∙ take-row (shape .slots) job few
+    ∙ ap (λ (s : Shape). symbols (s .slots) (drop starting-at job)) shaped

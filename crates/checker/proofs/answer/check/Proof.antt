@@ -112,11 +112,16 @@ hand-out-requires c κs =
     let slots′ : shapeOf (a .job .now) .slots ≡ shape .slots = ap (λ (s : Shape). s .slots) same in
     let draws′ : shapeOf (a .job .now) .draws ≡ shape .draws = ap (λ (s : Shape). s .draws) same in
     let many : length (drawsOf (a .job .now)) ≡ shapeOf (a .job .now) .draws = length-symbols _ _ in
+    let time′ : shapeOf (a .job .now) .time ≡ shape .time = ap (λ (s : Shape). s .time) same in
     record {
-      shaped = sym same;
-      few-slots = rw slots′ at (proper′ .few-slots);
-      few-draws = let few : length (drawsOf (a .job .now)) ≤ most-draws = proper′ .few-draws in omega arith;
-      sized = (listed (a .list .now) (c .before .before .before .before .before .before .before .before .head .given .0 .0) (sym (c .before .before .before .before .before .before .before .before .before .before .read-list .ensures) ∙ c .before .before .before .before .before .before .before .before .head .given .1)) .sized;
+      fit =
+          record {
+            shaped = sym same;
+            some-time = rw time′ at (proper′ .some-time);
+            few-slots = rw slots′ at (proper′ .few-slots);
+            few-draws = let few : length (drawsOf (a .job .now)) ≤ most-draws = proper′ .few-draws in omega arith;
+            sized = (listed (a .list .now) (c .before .before .before .before .before .before .before .before .head .given .0 .0) (sym (c .before .before .before .before .before .before .before .before .before .before .read-list .ensures) ∙ c .before .before .before .before .before .before .before .before .head .given .1)) .sized;
+          };
       tick-room = c .before .before .before .before .before .if1 .left;
       slot-room = c .before .before .before .before .if2 .left;
     }

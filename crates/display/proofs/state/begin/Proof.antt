@@ -1,20 +1,55 @@
--- `begin` meets its contract: the slot is emptied, and the load is under way.
+-- `begin` meets its contract: nothing is asked for, or the slot is emptied and the load is under way.
+use Prim.Native.Nat.{_≤_}
+use native.Mathlib.Omega.{arith}
+use mathlib.Core.Path.{_≡_}
 use borrow.Author.Needs.{needs}
-use Rattle.laws.proofs.Places.{take-set}
+use Rattle.display.proofs.Views.{under-way}
 use Rattle.display.proofs.state.begin.Statement.{statement}
 use Rattle.display.proofs.state.begin.Tie as tie
 
-one-less-requires : tie.Need-one-less-requires
-one-less-requires c κs = search needs
+enum-known-asked : tie.Need-enum-known-asked
+enum-known-asked c = search needs
+
+enum-told : tie.Need-enum-told
+enum-told c = search needs
+
+returns : tie.Need-returns
+returns c = λ h job e. simp (c .enum-told .given .1)
+
+cast-put : tie.Need-cast-put
+cast-put c = search needs
 
 put-requires : tie.Need-put-requires
 put-requires c κs = search needs
 
-add-t8 : tie.Need-add-t8
-add-t8 c = search needs
+add-t11 : tie.Need-add-t11
+add-t11 c = search needs
 
-returns : tie.Need-returns
-returns c = λ k h job e. simp (c .before .put .ensures, c .before .before .before .one-less .ensures, take-set, e)
+cast-t10 : tie.Need-cast-t10
+cast-t10 c = search needs
+
+same-length : tie.Need-same-length
+same-length c = search needs
+
+returns-2 : tie.Need-returns-2
+returns-2 c =
+    let a = c .before .before .before .before .before .before .before .before .before .args in
+    let pre = c .before .before .before .before .before .before .before .before .before .pre in
+    let load = c .before .before .before .before .before .before .asked .given in
+    λ h job e.
+    let some : a .time ≡ 0 → ⊥ = λ none. let one : 1 ≤ a .time = pre .0 in omega arith in
+    simp (load .1, c .before .before .before .put .ensures, under-way (a .time) (load .0 .0) (load .0 .1 .0) some, e)
 
 pub begin-spec : {M : Type 1} → statement M
-begin-spec = tie.close (tie.spec one-less-requires put-requires add-t8 returns)
+begin-spec =
+    tie.close
+    (tie.spec
+    enum-known-asked
+    enum-told
+    returns
+    cast-put
+    put-requires
+    add-t11
+    cast-t10
+    same-length
+    returns-2)

@@ -16,10 +16,10 @@ wait-requires : tie.Need-wait-requires
 wait-requires c κs = search needs
 
 returns : tie.Need-returns
-returns c = λ k h. simp (c .before .enum-told .given .1) (c .draw .ensures k h (c .before .enum-told .given .0 .0))
+returns c = λ slots h. simp (c .before .enum-told .given .1) (c .draw .ensures slots h (c .before .enum-told .given .0 .0))
 
 returns-2 : tie.Need-returns-2
-returns-2 c = λ k h. simp (c .before .enum-told2 .given .1) (c .wait .ensures k h)
+returns-2 c = λ slots h. simp (c .before .enum-told2 .given .1) (c .wait .ensures slots h)
 
 pub move-on-spec : {M : Type 1} → statement M
 move-on-spec =

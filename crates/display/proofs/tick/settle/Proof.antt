@@ -11,13 +11,13 @@ happening-of-requires c κs = search needs
 is-stuck-requires : tie.Need-is-stuck-requires
 is-stuck-requires c κs = search needs
 
-cast-t9 : tie.Need-cast-t9
-cast-t9 c = search needs
+cast-t10 : tie.Need-cast-t10
+cast-t10 c = search needs
 
 returns : tie.Need-returns
 returns c =
-    let a = c .before .before .before .before .args in
-    settled-refused (a .k) (a .d) (a .asked) (a .symbol) (a .done) (c .before .before .before .happening-of .result)
+    let a = c .before .before .before .before .before .args in
+    settled-refused (a .slots .now) (a .d) (a .asked) (a .symbol) (a .done) (c .before .before .before .happening-of .result)
     (c .before .before .before .happening-of .ensures)
     (sym (c .before .before .is-stuck .ensures) ∙ c .before .if1 .taken)
 
@@ -26,14 +26,14 @@ move-on-requires c κs = search needs
 
 returns-2 : tie.Need-returns-2
 returns-2 c =
-    let a = c .before .before .before .before .args in
-    settled-went (a .k) (a .d) (a .asked) (a .symbol) (a .done) (c .before .before .before .happening-of .result)
+    let a = c .before .before .before .before .before .args in
+    settled-went (a .slots .now) (a .d) (a .asked) (a .symbol) (a .done) (c .before .before .before .happening-of .result)
     (c .before .before .before .happening-of .ensures)
     (sym (c .before .before .is-stuck .ensures) ∙ c .before .if1 .left)
     (c .move-on .result)
-    (c .move-on .ensures (a .k))
+    (c .move-on .ensures (a .slots .now))
 
 pub settle-spec : {M : Type 1} → statement M
 settle-spec =
     tie.close
-    (tie.spec happening-of-requires is-stuck-requires cast-t9 returns move-on-requires returns-2)
+    (tie.spec happening-of-requires is-stuck-requires cast-t10 returns move-on-requires returns-2)

@@ -3,7 +3,7 @@ use Prim.Native.Nat.{ℕ, _+_, _*_, _≤_}
 use native.Mathlib.Omega.{arith}
 use mathlib.Core.List.{List}
 use mathlib.Core.Path.{_≡_, sym, ap, _∙_}
-use lib.ListN.{length}
+use lib.ListN.{length, replicate, length-replicate}
 use borrow.Author.Needs.{needs}
 use Rattle.rules.specs.Display.{Run, going, refused}
 use Rattle.rules.specs.Job.{drawsOf}
@@ -51,7 +51,6 @@ returns-2 c =
     let plan : ℕ = c .before .before .before .before .before .before .before .before .args .plan in
     let shape = c .before .before .before .reading .given .0 .0 in
     let taken : readJob job ≡ Taken shape = sym (c .before .before .before .before .before .read-job .ensures) ∙ c .before .before .before .reading .given .1 in
-    let many : length (drawsOf job) ≡ shape .draws = draws-many job shape taken in
     let halts : planned job plan (length room) ≡ refused 6 0 = planned-unknown job plan (length room) shape taken (c .before .if1 .taken) in
     (c .refusal .ensures ∙ ap answerOf (sym halts), untouched (planned job plan (length room)) 6 0 room halts)
 
@@ -79,13 +78,27 @@ returns-3 c =
     planned-short job plan (length room) shape taken (c .before .before .before .if1 .left) (omega (arith, c .before .if2 .taken)) in
     (c .refusal2 .ensures ∙ ap answerOf (sym halts), untouched (planned job plan (length room)) 7 0 room halts)
 
+slice-aggregate-run-of : tie.Need-slice-aggregate-run-of
+slice-aggregate-run-of c = search needs
+
+slice-aggregate-run-of-2 : tie.Need-slice-aggregate-run-of-2
+slice-aggregate-run-of-2 c = search needs
+
+slice-aggregate-run-of-3 : tie.Need-slice-aggregate-run-of-3
+slice-aggregate-run-of-3 c = search needs
+
+slice-aggregate-run-of-4 : tie.Need-slice-aggregate-run-of-4
+slice-aggregate-run-of-4 c = search needs
+
 run-of-requires : tie.Need-run-of-requires
-run-of-requires c κs = sym (c .before .before .before .before .before .before .read-job .ensures) ∙ c .before .before .before .before .reading .given .1
+run-of-requires c κs =
+    let room : length (replicate {A = ℕ} 4096 0) ≡ 4096 = length-replicate {A = ℕ} 4096 0 in (
+      sym (c .before .before .before .before .before .before .before .before .before .before .read-job .ensures) ∙ c .before .before .before .before .before .before .before .before .reading .given .1,
+      record { ticks-room = room; draws-room = room; slots-room = room; symbols-room = room },
+    )
 
 cast-write-list : tie.Need-cast-write-list
-cast-write-list c =
-    let ran = c .before .before .before .before .before .before .before .run-of in
-    omega (arith, ran .ensures .few (c .before .before .before .before .before .before .if3 .taken), ran .ensures .few-draws)
+cast-write-list c = search needs
 
 slice-aggregate-write-list : tie.Need-slice-aggregate-write-list
 slice-aggregate-write-list c = search needs
@@ -98,35 +111,35 @@ slice-aggregate-write-list-3 c = search needs
 
 write-list-requires : tie.Need-write-list-requires
 write-list-requires c κs =
-    let job : List ℕ = c .before .before .before .before .before .before .before .before .before .before .before .before .before .before .before .before .before .before .before .before .args .job .now in
-    let room : List ℕ = c .before .before .before .before .before .before .before .before .before .before .before .before .before .before .before .before .before .before .before .before .args .room .now in
-    let plan : ℕ = c .before .before .before .before .before .before .before .before .before .before .before .before .before .before .before .before .before .before .before .before .args .plan in
-    let shape = c .before .before .before .before .before .before .before .before .before .before .before .before .before .before .before .reading .given .0 .0 in
-    let taken : readJob job ≡ Taken shape = sym (c .before .before .before .before .before .before .before .before .before .before .before .before .before .before .before .before .before .read-job .ensures) ∙ c .before .before .before .before .before .before .before .before .before .before .before .before .before .before .before .reading .given .1 in
+    let job : List ℕ = c .before .before .before .before .before .before .before .before .before .before .before .before .before .before .before .before .before .before .before .before .before .before .before .before .before .args .job .now in
+    let room : List ℕ = c .before .before .before .before .before .before .before .before .before .before .before .before .before .before .before .before .before .before .before .before .before .before .before .before .before .args .room .now in
+    let plan : ℕ = c .before .before .before .before .before .before .before .before .before .before .before .before .before .before .before .before .before .before .before .before .before .before .before .before .before .args .plan in
+    let shape = c .before .before .before .before .before .before .before .before .before .before .before .before .before .before .before .before .before .before .before .before .reading .given .0 .0 in
+    let taken : readJob job ≡ Taken shape = sym (c .before .before .before .before .before .before .before .before .before .before .before .before .before .before .before .before .before .before .before .before .before .before .read-job .ensures) ∙ c .before .before .before .before .before .before .before .before .before .before .before .before .before .before .before .before .before .before .before .before .reading .given .1 in
     let many : length (drawsOf job) ≡ shape .draws = draws-many job shape taken in
-    let ran = c .before .before .before .before .before .before .before .before .before .before .run-of in
-    let known : plan ≤ 3 = c .before .before .before .before .before .before .before .before .before .before .before .before .before .if1 .left in
-    let enough : head-size + event-size * length (drawsOf job) ≤ length room = omega (arith, c .before .before .before .before .before .before .before .before .before .before .before .if2 .left) in
-    fitting plan job (ran .result) (ran .ensures) (c .before .before .before .before .before .before .before .before .before .if3 .taken) room enough
+    let ran = c .before .before .before .before .before .before .before .before .before .before .before .run-of in
+    let whole : length (replicate {A = ℕ} 4096 0) ≡ 4096 = length-replicate {A = ℕ} 4096 0 in
+    let enough : head-size + event-size * length (drawsOf job) ≤ length room = omega (arith, c .before .before .before .before .before .before .before .before .before .before .before .before .before .before .before .before .if2 .left) in
+    fitting job shape taken plan (ran .result) _ _ _ _ (ran .ensures) (ran .kept .1 .1 .1 .0 ∙ whole) (ran .kept .1 .1 .1 .1 .1 .0 ∙ whole) (ran .kept .1 .1 .1 .1 .1 .1 .0 ∙ whole) room enough
 
 same-length : tie.Need-same-length
 same-length c = search needs
 
 returns-4 : tie.Need-returns-4
 returns-4 c =
-    let job : List ℕ = c .before .before .before .before .before .before .before .before .before .before .before .before .before .before .before .before .before .before .before .before .before .before .before .before .args .job .now in
-    let room : List ℕ = c .before .before .before .before .before .before .before .before .before .before .before .before .before .before .before .before .before .before .before .before .before .before .before .before .args .room .now in
-    let plan : ℕ = c .before .before .before .before .before .before .before .before .before .before .before .before .before .before .before .before .before .before .before .before .before .before .before .before .args .plan in
-    let shape = c .before .before .before .before .before .before .before .before .before .before .before .before .before .before .before .before .before .before .before .reading .given .0 .0 in
-    let taken : readJob job ≡ Taken shape = sym (c .before .before .before .before .before .before .before .before .before .before .before .before .before .before .before .before .before .before .before .before .before .read-job .ensures) ∙ c .before .before .before .before .before .before .before .before .before .before .before .before .before .before .before .before .before .before .before .reading .given .1 in
+    let job : List ℕ = c .before .before .before .before .before .before .before .before .before .before .before .before .before .before .before .before .before .before .before .before .before .before .before .before .before .before .before .before .args .job .now in
+    let room : List ℕ = c .before .before .before .before .before .before .before .before .before .before .before .before .before .before .before .before .before .before .before .before .before .before .before .before .before .before .before .before .args .room .now in
+    let plan : ℕ = c .before .before .before .before .before .before .before .before .before .before .before .before .before .before .before .before .before .before .before .before .before .before .before .before .before .before .before .before .args .plan in
+    let shape = c .before .before .before .before .before .before .before .before .before .before .before .before .before .before .before .before .before .before .before .before .before .before .before .reading .given .0 .0 in
+    let taken : readJob job ≡ Taken shape = sym (c .before .before .before .before .before .before .before .before .before .before .before .before .before .before .before .before .before .before .before .before .before .before .before .before .before .read-job .ensures) ∙ c .before .before .before .before .before .before .before .before .before .before .before .before .before .before .before .before .before .before .before .before .before .before .before .reading .given .1 in
     let many : length (drawsOf job) ≡ shape .draws = draws-many job shape taken in
     let ran = c .before .before .before .before .before .before .before .before .before .before .before .before .before .before .run-of in
-    let known : plan ≤ 3 = c .before .before .before .before .before .before .before .before .before .before .before .before .before .before .before .before .before .if1 .left in
-    let enough : head-size + event-size * length (drawsOf job) ≤ length room = omega (arith, c .before .before .before .before .before .before .before .before .before .before .before .before .before .before .before .if2 .left) in
+    let known : plan ≤ 3 = c .before .before .before .before .before .before .before .before .before .before .before .before .before .before .before .before .before .before .before .before .before .if1 .left in
+    let enough : head-size + event-size * length (drawsOf job) ≤ length room = omega (arith, c .before .before .before .before .before .before .before .before .before .before .before .before .before .before .before .before .before .before .before .if2 .left) in
     let goes : planned job plan (length room) ≡ going _ =
-    planned-over job shape taken plan (length room) known enough (ran .result) (ran .ensures) (c .before .before .before .before .before .before .before .before .before .before .before .before .before .if3 .taken) in (
+    planned-over job shape taken plan (length room) known enough (ran .result) _ _ _ _ (ran .ensures) (c .before .before .before .before .before .before .before .before .before .if3 .taken) in (
       ap answerOf (sym goes),
-      c .before .before .before .write-list .ensures (ran .ensures .shown .beside .begun) (written plan job (ran .result) (ran .ensures) (c .before .before .before .before .before .before .before .before .before .before .before .before .before .if3 .taken))
+      c .before .before .write-list .ensures (ran .ensures .shown .beside .begun) (written job shape taken plan (ran .result) _ _ _ _ (ran .ensures))
           ∙ ap (λ (x : Run). lent (writtenBy x) room) (sym goes),
     )
 
@@ -135,17 +148,17 @@ refusal-requires-3 c κs = search needs
 
 returns-5 : tie.Need-returns-5
 returns-5 c =
-    let job : List ℕ = c .before .before .before .before .before .before .before .before .before .before .before .before .args .job .now in
-    let room : List ℕ = c .before .before .before .before .before .before .before .before .before .before .before .before .args .room .now in
-    let plan : ℕ = c .before .before .before .before .before .before .before .before .before .before .before .before .args .plan in
-    let shape = c .before .before .before .before .before .before .before .reading .given .0 .0 in
-    let taken : readJob job ≡ Taken shape = sym (c .before .before .before .before .before .before .before .before .before .read-job .ensures) ∙ c .before .before .before .before .before .before .before .reading .given .1 in
+    let job : List ℕ = c .before .before .before .before .before .before .before .before .before .before .before .before .before .before .before .before .before .before .before .before .args .job .now in
+    let room : List ℕ = c .before .before .before .before .before .before .before .before .before .before .before .before .before .before .before .before .before .before .before .before .args .room .now in
+    let plan : ℕ = c .before .before .before .before .before .before .before .before .before .before .before .before .before .before .before .before .before .before .before .before .args .plan in
+    let shape = c .before .before .before .before .before .before .before .before .before .before .before .before .before .before .before .reading .given .0 .0 in
+    let taken : readJob job ≡ Taken shape = sym (c .before .before .before .before .before .before .before .before .before .before .before .before .before .before .before .before .before .read-job .ensures) ∙ c .before .before .before .before .before .before .before .before .before .before .before .before .before .before .before .reading .given .1 in
     let many : length (drawsOf job) ≡ shape .draws = draws-many job shape taken in
-    let ran = c .before .before .run-of in
-    let known : plan ≤ 3 = c .before .before .before .before .before .if1 .left in
-    let enough : head-size + event-size * length (drawsOf job) ≤ length room = omega (arith, c .before .before .before .if2 .left) in
+    let ran = c .before .before .before .before .before .before .run-of in
+    let known : plan ≤ 3 = c .before .before .before .before .before .before .before .before .before .before .before .before .before .if1 .left in
+    let enough : head-size + event-size * length (drawsOf job) ≤ length room = omega (arith, c .before .before .before .before .before .before .before .before .before .before .before .if2 .left) in
     let halts : planned job plan (length room) ≡ refused 15 0 =
-    planned-late job shape taken plan (length room) known enough (ran .result) (ran .ensures) (c .before .if3 .left) in
+    planned-late job shape taken plan (length room) known enough (ran .result) _ _ _ _ (ran .ensures) (c .before .if3 .left) in
     (c .refusal3 .ensures ∙ ap answerOf (sym halts), untouched (planned job plan (length room)) 15 0 room halts)
 
 pub plan-spec : {M : Type 1} → statement M
@@ -164,6 +177,10 @@ plan-spec =
     add-if2
     refusal-requires-2
     returns-3
+    slice-aggregate-run-of
+    slice-aggregate-run-of-2
+    slice-aggregate-run-of-3
+    slice-aggregate-run-of-4
     run-of-requires
     cast-write-list
     slice-aggregate-write-list

@@ -32,10 +32,10 @@ returns-2 : tie.Need-returns-2
 returns-2 c =
     let a = c .before .before .before .before .args in
     let pre = c .before .before .before .before .pre in
-    let tick-room : length (a .ticks .now) ≡ 4096 = pre .0 in
-    let draw-room : length (a .draws .now) ≡ 4096 = pre .1 .draws-room in
-    let slot-room : length (a .slots .now) ≡ 4096 = pre .1 .slots-room in
-    let symbol-room : length (a .symbols .now) ≡ 4096 = pre .1 .symbols-room in (
+    let tick-room : length (a .ticks .now) ≡ 4096 = pre .ticks-room in
+    let draw-room : length (a .draws .now) ≡ 4096 = pre .draws-room in
+    let slot-room : length (a .slots .now) ≡ 4096 = pre .slots-room in
+    let symbol-room : length (a .symbols .now) ≡ 4096 = pre .symbols-room in (
       noted-past (a .begun) (λ q x. a .tick) (a .at) (a .ticks .now) (omega arith),
       (
         noted-past (a .begun) (λ q x. a .draw) (a .at) (a .draws .now) (omega arith),

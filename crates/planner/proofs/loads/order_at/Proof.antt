@@ -1,7 +1,4 @@
--- A load below the count stands in the rows; behind it there is none.
-use native.Mathlib.Omega.{arith}
-use mathlib.Core.Path.{_≡_}
-use lib.ListN.{length}
+-- A load that the rows have stands in them; behind the last there is none.
 use borrow.Author.Needs.{needs}
 use Rattle.planner.proofs.Orders.{order-none, order-there}
 use Rattle.planner.proofs.loads.order_at.Statement.{statement}
@@ -10,43 +7,36 @@ use Rattle.planner.proofs.loads.order_at.Tie as tie
 returns : tie.Need-returns
 returns c =
     let a = c .before .args in
-    λ l s few lists.
-    let many : length l ≡ a .count = lists .many in
-    order-none l s (a .at) (omega arith)
+    λ l s lists. order-none l s (a .at) (a .misses .now) (a .into .now) (a .what .now) lists (c .if1 .taken)
+
+mul-t6 : tie.Need-mul-t6
+mul-t6 c = search needs
+
+shared-slice-read-t9 : tie.Need-shared-slice-read-t9
+shared-slice-read-t9 c = search needs
+
+shared-slice-read-t11 : tie.Need-shared-slice-read-t11
+shared-slice-read-t11 c = search needs
+
+mul-t12 : tie.Need-mul-t12
+mul-t12 c = search needs
+
+shared-slice-read-t14 : tie.Need-shared-slice-read-t14
+shared-slice-read-t14 c = search needs
 
 returns-2 : tie.Need-returns-2
-returns-2 c = λ l s few lists. absurd (omega arith)
-
-mul-t8 : tie.Need-mul-t8
-mul-t8 c = search needs
-
-shared-slice-read-t10 : tie.Need-shared-slice-read-t10
-shared-slice-read-t10 c = search needs
-
-shared-slice-read-t12 : tie.Need-shared-slice-read-t12
-shared-slice-read-t12 c = search needs
-
-mul-t13 : tie.Need-mul-t13
-mul-t13 c = search needs
-
-shared-slice-read-t15 : tie.Need-shared-slice-read-t15
-shared-slice-read-t15 c = search needs
-
-returns-3 : tie.Need-returns-3
-returns-3 c =
-    let a = c .before .before .before .before .before .args in
-    λ l s few lists.
-    order-there l s (a .count) (a .at) (a .draws .now) (a .slots .now) (a .symbols .now) lists (c .before .before .before .before .if1 .left)
+returns-2 c =
+    let a = c .before .before .before .before .args in
+    λ l s lists. order-there l s (a .at) (a .misses .now) (a .into .now) (a .what .now) lists (c .before .before .before .if1 .left)
 
 pub order-at-spec : {M : Type 1} → statement M
 order-at-spec =
     tie.close
     (tie.spec
     returns
-    returns-2
-    mul-t8
-    shared-slice-read-t10
-    shared-slice-read-t12
-    mul-t13
-    shared-slice-read-t15
-    returns-3)
+    mul-t6
+    shared-slice-read-t9
+    shared-slice-read-t11
+    mul-t12
+    shared-slice-read-t14
+    returns-2)

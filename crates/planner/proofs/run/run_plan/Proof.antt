@@ -1,167 +1,168 @@
--- The ticks left lead where the whole run leads, with the draws and loads so far beside the display. The loop is left where no draw remains, no tick is left, or a tick is refused.
-use Prim.Native.Nat.{ℕ, _-_, _<_}
+-- The loop keeps the run on its way and its loads noted. It is left where no draw remains, no tick is left, or a tick is refused.
+use Prim.Native.Nat.{ℕ, _+_, _-_, _<_, _≤_}
 use native.Mathlib.Omega.{arith}
 use mathlib.Core.Bool.{cond}
 use mathlib.Core.List.{List}
 use mathlib.Core.Logic.{⊎-elim}
 use mathlib.Core.Path.{_≡_, refl, sym, ap, _∙_}
 use lib.Dec.{leb}
-use lib.ListN.{replicate, length-replicate, length}
+use lib.ListN.{length}
 use borrow.Author.Needs.{needs}
-use Rattle.rules.specs.Display.{Rule, going, refused, State, start}
-use Rattle.rules.specs.Job.{Job, shapeOf, jobOf}
+use Rattle.rules.specs.Display.{Rule, going, refused}
+use Rattle.rules.specs.Job.{Job, shapeOf, drawsOf, jobOf}
+use Rattle.rules.specs.LoadList.{last-tick}
 use Rattle.rules.specs.Plans.{opt, runPlan, begunIn, ruleOf}
 use Rattle.rules.specs.Refusals.{inTime}
 use Rattle.rules.specs.declared.Shape.{Shape}
 use Rattle.laws.proofs.Symbols.{length-symbols}
+use Rattle.display.specs.Tick.{Ticks}
 use Rattle.display.specs.View.{view, onward, Beside}
-use Rattle.planner.specs.Runs.{Ticks}
-use Rattle.planner.proofs.Walks.{Walking, Held, before-all, starts, held-start, held-on, walking-start, walking-on, ends-over, ends-late, ends-refused, ruled}
+use Rattle.display.specs.declared.state.Display.{Display}
+use Rattle.planner.proofs.Walks.{Walking, Held, before-all, walking-first, held-start, held-on, walking-on, calm, ends-over, ends-late, ends-refused, ruled}
 use Rattle.planner.proofs.run.run_plan.Statement.{statement}
 use Rattle.planner.proofs.run.run_plan.Tie as tie
 
 abbrev Inv-loop : tie.InvT-loop
-Inv-loop plan job shape row orders misses into what ticks₀ draws₀ slots₀ symbols₀ d₀ left₀ ticks draws slots symbols d left =
-    (h : Beside) × Walking (jobOf job) (ruleOf (jobOf job) plan) d left h × Held (h .begun) (d .loads) ticks draws slots symbols
+Inv-loop plan job shape row held₀ misses into what ticks₀ draws₀ slots₀ symbols₀ d₀ held ticks draws slots symbols d =
+    (length held ≡ length held₀)
+    × (h : Beside)
+    × Walking (jobOf job) (ruleOf (jobOf job) plan) held d h
+    × Held (h .begun) (d .loads) ticks draws slots symbols
 
 abbrev μ-loop : tie.MeasureT-loop
-μ-loop plan job shape row orders misses into what ticks₀ draws₀ slots₀ symbols₀ d₀ left₀ ticks draws slots symbols d left =
-    left
-
-starting-slots-requires : tie.Need-starting-slots-requires Inv-loop μ-loop
-starting-slots-requires c κs = search needs
+μ-loop plan job shape row held₀ misses into what ticks₀ draws₀ slots₀ symbols₀ d₀ held ticks draws slots symbols d =
+    last-tick - d .tick
 
 start-requires : tie.Need-start-requires Inv-loop μ-loop
 start-requires c κs = search needs
 
 loop-holds : tie.Need-loop-holds Inv-loop μ-loop
 loop-holds c =
-    let a = c .before .before .before .before .before .before .before .args in
-    let pre = c .before .before .before .before .before .before .before .pre in
-    let job = a .job .now in
-    let begins : view (shapeOf job .slots) (before-all (jobOf job)) (c .start .result) ≡ start (jobOf job) =
-    starts job (a .shape .slots) (c .before .starting-slots .result) (c .start .result) (ap (λ (s : Shape). s .slots) (pre .limits .shaped))
-    (pre .limits .few-slots) (c .before .starting-slots .ensures) (c .start .ensures) in
-    let no-load : c .start .result .loads ≡ 0 = ap (λ (s : State). s .loads) begins in
-    let empty : List ℕ = replicate 4096 0 in
-    let room : length empty ≡ 4096 = length-replicate {A = ℕ} 4096 0 in (
-      before-all (jobOf job),
-      walking-start (jobOf job) (ruleOf (jobOf job) (a .plan)) (c .start .result) (before-all (jobOf job)) begins,
-      rw no-load (held-start empty empty empty empty room (record { draws-room = room; slots-room = room; symbols-room = room })),
+    let a = c .before .before .before .before .before .before .before .before .before .before .before .args in (
+      refl,
+      before-all (jobOf (a .job .now)),
+      walking-first (a .job .now) (ruleOf (jobOf (a .job .now)) (a .plan)) (a .held .now) (c .start .result) (c .before .before .before .before .before .before .before .before .before .before .before .pre .0 .starts) (c .start .ensures),
+      rw (c .start .ensures) (held-start (a .ticks .now) (a .draws .now) (a .slots .now) (a .symbols .now) (c .before .before .before .before .before .before .before .before .before .before .before .pre .1)),
     )
 
-slice-aggregate-order-at : tie.Need-slice-aggregate-order-at Inv-loop μ-loop
-slice-aggregate-order-at c = sym (c .before .before .before .before .before .before .before .before .before .before .before .before .pre .given .whole .draws-room)
-
-slice-aggregate-order-at-2 : tie.Need-slice-aggregate-order-at-2 Inv-loop μ-loop
-slice-aggregate-order-at-2 c = sym (c .before .before .before .before .before .before .before .before .before .before .before .before .before .pre .given .whole .slots-room)
-
-slice-aggregate-order-at-3 : tie.Need-slice-aggregate-order-at-3 Inv-loop μ-loop
-slice-aggregate-order-at-3 c = sym (c .before .before .before .before .before .before .before .before .before .before .before .before .before .before .pre .given .whole .symbols-room)
-
 order-at-requires : tie.Need-order-at-requires Inv-loop μ-loop
-order-at-requires c κs = c .before .before .before .before .before .before .before .before .before .before .before .before .before .before .pre .given .whole
+order-at-requires c κs = c .before .before .before .before .before .before .before .before .before .before .before .before .before .before .before .pre .0 .given .even
 
 plan-tick-requires : tie.Need-plan-tick-requires Inv-loop μ-loop
 plan-tick-requires c κs =
-    let pre = c .before .before .before .before .before .before .before .before .before .before .before .before .before .before .before .pre in
-    let w = c .before .before .before .before .before .before .before .loop .inv .1 in
-    let time = w .clock in (
-      pre .limits,
-      pre .turned,
+    let a = c .before .before .before .before .before .before .before .before .before .before .before .before .before .before .before .before .before .args in
+    let ready = c .before .before .before .before .before .before .before .before .before .before .before .before .before .before .before .before .before .pre .0 in
+    let l = c .before .before .before .before .before .loop in
+    let g = l .inv .2 .along in
+    let time = g .in-time in
+    let few-waits : l .d .waits ≤ l .d .tick = g .waits in
+    let few-loads : l .d .loads ≤ l .d .tick = g .loads in
+    let within : l .d .next < a .shape .draws = c .before .before .before .if1 .left in
+    let most = ready .limits .few-draws in
+    let size : length (a .held .now) ≡ a .shape .slots =
+    ap length (ready .starts) ∙ length-symbols (shapeOf (a .job .now) .slots) _ ∙ ap (λ (s : Shape). s .slots) (sym (ready .limits .shaped)) in (
+      ready .limits,
+      ready .turned,
+      l .inv .0 ∙ size,
       record { tick = omega arith; next = omega arith; waits = omega arith },
       omega arith,
-      omega arith,
+      within,
     )
 
-enum-told : tie.Need-enum-told Inv-loop μ-loop
-enum-told c = search needs
-
-enum-known-outcome : tie.Need-enum-known-outcome Inv-loop μ-loop
-enum-known-outcome c = search needs
-
-slice-aggregate-note : tie.Need-slice-aggregate-note Inv-loop μ-loop
-slice-aggregate-note c = sym (c .before .before .before .before .before .before .before .before .before .before .before .before .loop .inv .2 .tick-room)
-
-slice-aggregate-note-2 : tie.Need-slice-aggregate-note-2 Inv-loop μ-loop
-slice-aggregate-note-2 c = sym (c .before .before .before .before .before .before .before .before .before .before .before .before .before .loop .inv .2 .whole .draws-room)
-
-slice-aggregate-note-3 : tie.Need-slice-aggregate-note-3 Inv-loop μ-loop
-slice-aggregate-note-3 c = sym (c .before .before .before .before .before .before .before .before .before .before .before .before .before .before .loop .inv .2 .whole .slots-room)
-
-slice-aggregate-note-4 : tie.Need-slice-aggregate-note-4 Inv-loop μ-loop
-slice-aggregate-note-4 c = sym (c .before .before .before .before .before .before .before .before .before .before .before .before .before .before .before .loop .inv .2 .whole .symbols-room)
-
 note-requires : tie.Need-note-requires Inv-loop μ-loop
-note-requires c κs = (c .before .before .before .before .before .before .before .before .before .before .before .before .before .before .before .loop .inv .2 .tick-room, c .before .before .before .before .before .before .before .before .before .before .before .before .before .before .before .loop .inv .2 .whole)
+note-requires c κs = c .before .before .before .before .before .before .before .before .before .before .before .before .before .before .before .loop .inv .3 .whole
 
-sub-left : tie.Need-sub-left Inv-loop μ-loop
-sub-left c = omega arith
+rest-of-requires : tie.Need-rest-of-requires Inv-loop μ-loop
+rest-of-requires c κs =
+    let l = c .before .before .before .before .before .before .before .before .before .before .before .before .before .before .before .before .before .before .before .before .before .before .before .before .before .loop in
+    let went = c .before .before .before .before .before .before .before .before .before .before .before .before .before .before .before .before .before .before .before .plan-tick .ensures .counts (c .before .before .before .before .before .before .before .before .before .before .before .before .before .before .before .if3 .left) in
+    let one-more : c .before .before .before .before .before .before .before .before .before .before .before .before .before .before .before .before .before .before .before .plan-tick .result .display .tick ≡ l .d .tick + 1 = went .tick in
+    let waits′ : c .before .before .before .before .before .before .before .before .before .before .before .before .before .before .before .before .before .before .before .plan-tick .result .display .waits ≤ l .d .waits + 1 = went .waits in
+    let few : l .d .waits ≤ l .d .tick = l .inv .2 .along .waits in
+    (omega arith, omega arith)
 
 loop-less : tie.Need-loop-less Inv-loop μ-loop
-loop-less c = omega arith
+loop-less c =
+    let l = c .before .before .before .before .before .before .before .before .before .before .before .before .before .before .before .before .before .before .before .before .before .before .before .before .before .before .loop in
+    let went = c .before .before .before .before .before .before .before .before .before .before .before .before .before .before .before .before .before .before .before .before .plan-tick .ensures .counts (c .before .before .before .before .before .before .before .before .before .before .before .before .before .before .before .before .if3 .left) in
+    let one-more : c .before .before .before .before .before .before .before .before .before .before .before .before .before .before .before .before .before .before .before .before .plan-tick .result .display .tick ≡ l .d .tick + 1 = went .tick in
+    let further : c .rest-of .result .tick ≡ c .before .before .before .before .before .before .before .before .before .before .before .before .before .before .before .before .before .before .before .before .plan-tick .result .display .tick + c .rest-of .ensures .many =
+    ap (λ (e : Display). e .tick) (c .rest-of .ensures .passes) in
+    omega arith
 
 loop-again : tie.Need-loop-again Inv-loop μ-loop
 loop-again c =
-    let a = c .before .before .before .before .before .before .before .before .before .before .before .before .before .before .before .before .before .before .before .before .before .before .before .before .before .before .before .before .before .args in
-    let pre = c .before .before .before .before .before .before .before .before .before .before .before .before .before .before .before .before .before .before .before .before .before .before .before .before .before .before .before .before .before .pre in
-    let l = c .before .before .before .before .before .before .before .before .before .before .before .before .before .before .before .before .before .before .before .before .before .loop in
-    let h = l .inv .0 in
-    let w = l .inv .1 in
+    let a = c .before .before .before .before .before .before .before .before .before .before .before .before .before .before .before .before .before .before .before .before .before .before .before .before .before .before .before .before .before .before .before .before .before .before .before .before .before .before .args in
+    let ready = c .before .before .before .before .before .before .before .before .before .before .before .before .before .before .before .before .before .before .before .before .before .before .before .before .before .before .before .before .before .before .before .before .before .before .before .before .before .before .pre .0 in
+    let l = c .before .before .before .before .before .before .before .before .before .before .before .before .before .before .before .before .before .before .before .before .before .before .before .before .before .before .loop in
+    let h = l .inv .1 in
+    let w = l .inv .2 in
     let job : Job = jobOf (a .job .now) in
-    let r = c .before .before .before .before .before .before .before .before .before .before .before .before .before .plan-tick .result in
-    let went = c .before .before .before .before .before .before .before .before .before .before .before .outcome .given in
-    let t = went .0 .0 in
-    let many : length (job .draws) ≡ a .shape .draws =
-    length-symbols (shapeOf (a .job .now) .draws) _ ∙ ap (λ (s : Shape). s .draws) (sym (pre .limits .shaped)) in
-    let ticks : Ticks job (ruleOf job (a .plan)) (l .d) r =
-    ruled (a .plan) job (c .before .before .before .before .before .before .before .before .before .before .before .before .before .before .order-at .result) (l .d) r
-    (λ one s. c .before .before .before .before .before .before .before .before .before .before .before .before .before .before .order-at .ensures (begunIn (runPlan job opt)) s (pre .given .few one) (pre .given .noted one .lists))
-    (c .before .before .before .before .before .before .before .before .before .before .before .before .before .plan-tick .ensures) in
-    let within : l .d .next < length (job .draws) = omega (arith, c .before .before .before .before .before .before .before .before .before .before .before .before .before .before .before .before .before .before .before .if1 .left, many) in
-    let some : 0 < l .left = omega (arith, c .before .before .before .before .before .before .before .before .before .before .before .before .before .before .before .before .before .before .if2 .left) in
-    let on : Walking job (ruleOf job (a .plan)) (r .display) (l .left - 1) (onward (l .d) t h) =
-    walking-on job (ruleOf job (a .plan)) (l .d) (l .left) h w within some r t ticks (went .1) in
-    let now-noted = c .before .before .before .before .before .note .ensures in (
-      onward (l .d) t h,
+    let r = c .before .before .before .before .before .before .before .before .before .before .before .before .before .before .before .before .before .before .before .before .plan-tick .result in
+    let held′ : List ℕ = c .before .before .before .before .before .before .before .before .before .before .before .before .before .before .before .before .before .before .before .before .plan-tick .last .1 .1 .1 .1 .0 in
+    let many : length (drawsOf (a .job .now)) ≡ a .shape .draws =
+    length-symbols (shapeOf (a .job .now) .draws) _ ∙ ap (λ (s : Shape). s .draws) (sym (ready .limits .shaped)) in
+    let ticks : Ticks job (ruleOf job (a .plan)) (l .held) held′ (l .d) r =
+    ruled (a .plan) job (c .before .before .before .before .before .before .before .before .before .before .before .before .before .before .before .before .before .before .before .before .before .before .order-at .result) (l .held) held′ (l .d) r
+    (λ one s. c .before .before .before .before .before .before .before .before .before .before .before .before .before .before .before .before .before .before .before .before .before .before .order-at .ensures (begunIn (runPlan job opt)) s (ready .given .orders one)) (c .before .before .before .before .before .before .before .before .before .before .before .before .before .before .before .before .before .before .before .before .plan-tick .ensures) in
+    let within : l .d .next < length (job .draws) = omega (arith, c .before .before .before .before .before .before .before .before .before .before .before .before .before .before .before .before .before .before .before .before .before .before .before .before .if1 .left, many) in
+    let early : l .d .tick < last-tick = omega (arith, c .before .before .before .before .before .before .before .before .before .before .before .before .before .before .before .before .before .before .before .before .before .before .before .if2 .left) in
+    let on : Walking job (ruleOf job (a .plan)) held′ (c .rest-of .result) (onward (l .d) (r .on_record) h) =
+    walking-on job (ruleOf job (a .plan)) (l .held) (l .d) h w within early held′ r ticks (c .before .before .before .before .before .before .before .before .before .before .before .before .before .before .before .before .if3 .left) (c .rest-of .result) (c .rest-of .ensures)
+    (calm (a .plan) job held′ (onward (l .d) (r .on_record) h) (r .display)) in
+    let now-noted = c .before .before .before .before .before .before .before .before .before .before .note .ensures in (
+      c .before .before .before .before .before .before .before .before .before .before .before .before .before .before .before .before .before .before .before .before .plan-tick .kept .1 .1 .1 .1 .0 ∙ l .inv .0,
+      onward (l .d) (r .on_record) h,
       on,
-      held-on (l .d) t h (r .display .loads) (l .ticks) (l .draws) (l .slots) (l .symbols) _ _ _ _ (w .listed) (on .listed)
-          (now-noted .0) (now-noted .1 .0) (now-noted .1 .1 .0) (now-noted .1 .1 .1) (l .inv .2),
+      held-on (l .d) (r .on_record) h (c .rest-of .result .loads) (l .ticks) (l .draws) (l .slots) (l .symbols) _ _ _ _ (w .listed) (on .listed)
+          (now-noted .0) (now-noted .1 .0) (now-noted .1 .1 .0) (now-noted .1 .1 .1) (l .inv .3),
     )
+
+same-length : tie.Need-same-length Inv-loop μ-loop
+same-length c =
+    let l = c .before .before .before .before .loop in
+    ⊎-elim
+    (λ v. ap length (v .1) ∙ l .inv .0)
+    (λ v. ⊎-elim (λ v. ap length (v .2) ∙ l .inv .0) (λ v. ap length (v .9) ∙ v .4 .kept .1 .1 .1 .1 .0 ∙ l .inv .0) v)
+    (c .before .before .if1 .came)
+
+same-length-2 : tie.Need-same-length-2 Inv-loop μ-loop
+same-length-2 c = c .before .before .before .before .loop .inv .3 .whole .ticks-room ∙ sym (c .before .before .before .before .before .before .before .before .before .before .before .before .before .before .before .before .pre .1 .ticks-room)
+
+same-length-3 : tie.Need-same-length-3 Inv-loop μ-loop
+same-length-3 c = c .before .before .before .before .loop .inv .3 .whole .draws-room ∙ sym (c .before .before .before .before .before .before .before .before .before .before .before .before .before .before .before .before .pre .1 .draws-room)
+
+same-length-4 : tie.Need-same-length-4 Inv-loop μ-loop
+same-length-4 c = c .before .before .before .before .loop .inv .3 .whole .slots-room ∙ sym (c .before .before .before .before .before .before .before .before .before .before .before .before .before .before .before .before .pre .1 .slots-room)
+
+same-length-5 : tie.Need-same-length-5 Inv-loop μ-loop
+same-length-5 c = c .before .before .before .before .loop .inv .3 .whole .symbols-room ∙ sym (c .before .before .before .before .before .before .before .before .before .before .before .before .before .before .before .before .pre .1 .symbols-room)
 
 returns : tie.Need-returns Inv-loop μ-loop
 returns c =
-    let a = c .before .before .before .before .before .before .before .before .before .before .before .before .args in
-    let pre = c .before .before .before .before .before .before .before .before .before .before .before .before .pre in
+    let a = c .before .before .before .before .before .before .before .before .before .before .before .before .before .before .before .before .args in
+    let ready = c .before .before .before .before .before .before .before .before .before .before .before .before .before .before .before .before .pre .0 in
     let l = c .before .before .before .before .loop in
-    let h = l .inv .0 in
-    let w = l .inv .1 in
+    let h = l .inv .1 in
+    let w = l .inv .2 in
     let job : Job = jobOf (a .job .now) in
     let rule : Rule = ruleOf job (a .plan) in
-    let many : length (job .draws) ≡ a .shape .draws =
-    length-symbols (shapeOf (a .job .now) .draws) _ ∙ ap (λ (s : Shape). s .draws) (sym (pre .limits .shaped)) in
-    let ended : inTime (runPlan job rule) ≡ cond (leb (length (job .draws)) (l .d .next)) (going (view (job .slots) h (l .d))) (refused 15 0) =
+    let many : length (drawsOf (a .job .now)) ≡ a .shape .draws =
+    length-symbols (shapeOf (a .job .now) .draws) _ ∙ ap (λ (s : Shape). s .draws) (sym (ready .limits .shaped)) in
+    let ended : inTime (runPlan job rule) ≡ cond (leb (length (job .draws)) (l .d .next)) (going (view (l .held) h (l .d))) (refused 15 0) =
     ⊎-elim
-    (λ v. ends-over job rule (l .d) (l .left) h w (omega arith))
+    (λ v. ends-over job rule (l .held) (l .d) h w (omega arith))
     (λ v. ⊎-elim
-    (λ v. ends-late job rule (l .d) (l .left) h w (omega arith) (v .1 .taken))
+    (λ v. ends-late job rule (l .held) (l .d) h w (omega arith) (v .1 .taken))
     (λ v.
-    ends-refused job rule (l .d) (l .left) h w (omega (arith, v .0 .left, many)) (omega (arith, v .1 .left)) (v .6 .result)
-    (v .8 .given .0 .0) (v .8 .given .0 .1 .0)
-    (ruled (a .plan) job (v .5 .result) (l .d) (v .6 .result)
-    (λ one s. v .5 .ensures (begunIn (runPlan job opt)) s (pre .given .few one) (pre .given .noted one .lists))
-    (v .6 .ensures))
-    (v .8 .given .1))
+    let held′ : List ℕ = v .4 .last .1 .1 .1 .1 .0 in
+    ends-refused job rule (l .held) (l .d) h w (omega (arith, v .0 .left, many)) (omega (arith, v .1 .left)) held′ (v .4 .result)
+    (ruled (a .plan) job (v .2 .result) (l .held) held′ (l .d) (v .4 .result)
+    (λ one s. v .2 .ensures (begunIn (runPlan job opt)) s (ready .given .orders one)) (v .4 .ensures))
+    (v .8 .taken))
     v)
     (c .before .before .if1 .came) in
-    record {
-      beside = h;
-      ends = rw many at ended;
-      many = refl;
-      noted = l .inv .2 .noted;
-      tick-room = l .inv .2 .tick-room;
-      whole = l .inv .2 .whole;
-    }
+    record { held = l .held; beside = h; ends = rw many at ended; noted = l .inv .3 .noted }
 
 pub run-plan-spec : {M : Type 1} → statement M
 run-plan-spec =
@@ -169,22 +170,17 @@ run-plan-spec =
     (tie.spec
     Inv-loop
     μ-loop
-    starting-slots-requires
     start-requires
     loop-holds
-    slice-aggregate-order-at
-    slice-aggregate-order-at-2
-    slice-aggregate-order-at-3
     order-at-requires
     plan-tick-requires
-    enum-told
-    enum-known-outcome
-    slice-aggregate-note
-    slice-aggregate-note-2
-    slice-aggregate-note-3
-    slice-aggregate-note-4
     note-requires
-    sub-left
+    rest-of-requires
     loop-less
     loop-again
+    same-length
+    same-length-2
+    same-length-3
+    same-length-4
+    same-length-5
     returns)

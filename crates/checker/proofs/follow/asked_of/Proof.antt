@@ -7,8 +7,8 @@ use borrow.Author.Needs.{needs}
 use Rattle.rules.specs.LoadList.{Event, head-size, eventsIn}
 use Rattle.rules.specs.Refusals.{due}
 use Rattle.laws.proofs.Events.{length-eventsIn, event-read, never-short, due-now, due-later, due-none}
-use Rattle.checker.proofs.run.asked_of.Statement.{statement}
-use Rattle.checker.proofs.run.asked_of.Tie as tie
+use Rattle.checker.proofs.follow.asked_of.Statement.{statement}
+use Rattle.checker.proofs.follow.asked_of.Tie as tie
 
 returns : tie.Need-returns
 returns c =

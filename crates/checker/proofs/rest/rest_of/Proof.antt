@@ -1,0 +1,68 @@
+-- `rest_of` meets its contract: behind a draw no tick is passed over, behind a wait as many as are still.
+use Prim.Native.Nat.{_+_, _-_, _≤_, min}
+use native.Mathlib.Omega.{arith}
+use mathlib.Core.Path.{_≡_, ap}
+use borrow.Author.Needs.{needs}
+use Rattle.display.specs.Still.{waiting}
+use Rattle.checker.proofs.Walks.{waits-none, waits-fewer}
+use Rattle.checker.proofs.rest.rest_of.Statement.{statement}
+use Rattle.checker.proofs.rest.rest_of.Tie as tie
+
+enum-told : tie.Need-enum-told
+enum-told c = search needs
+
+enum-told-2 : tie.Need-enum-told-2
+enum-told-2 c = search needs
+
+sub-smaller : tie.Need-sub-smaller
+sub-smaller c = search needs
+
+still-ticks-requires : tie.Need-still-ticks-requires
+still-ticks-requires c κs = search needs
+
+smaller-requires : tie.Need-smaller-requires
+smaller-requires c κs = search needs
+
+pass-requires : tie.Need-pass-requires
+pass-requires c κs = search needs
+
+returns : tie.Need-returns
+returns c =
+    let d = c .before .before .before .args .d in
+    let here : d .tick + 0 ≡ d .tick = omega arith in
+    let waits : d .waits + 0 ≡ d .waits = omega arith in
+    let until : d .until - 0 ≡ d .until = omega arith in
+    let early : d .tick ≤ c .before .before .before .args .limit = c .before .before .before .pre .1 in
+    record {
+      many = 0;
+      passes = rw (here, waits, until);
+      in-time = omega arith;
+      behind = λ some. absurd (omega arith);
+      still = waits-none _ d;
+    }
+
+returns-2 : tie.Need-returns-2
+returns-2 c =
+    let a = c .before .before .before .before .before .before .before .args in
+    let fewer : c .before .smaller .result ≡ min (a .limit - a .d .tick) (c .before .before .still-ticks .result) = c .before .smaller .ensures in
+    let early : a .d .tick ≤ a .limit = c .before .before .before .before .before .before .before .pre .1 in
+    record {
+      many = c .before .smaller .result;
+      passes = c .pass .ensures;
+      in-time = omega arith;
+      behind = λ some. ap waiting (c .before .before .before .before .enum-told2 .given .1);
+      still = waits-fewer _ (a .d) (c .before .before .still-ticks .result) (c .before .smaller .result) (omega arith) (c .before .before .still-ticks .ensures);
+    }
+
+pub rest-of-spec : {M : Type 1} → statement M
+rest-of-spec =
+    tie.close
+    (tie.spec
+    enum-told
+    enum-told-2
+    sub-smaller
+    still-ticks-requires
+    smaller-requires
+    pass-requires
+    returns
+    returns-2)

@@ -1,0 +1,66 @@
+// A tick of the display along a load list: what the list asks for, and the three steps.
+use crate::walk::event_of;
+use display::Display;
+use display::Ticked;
+use display::begin;
+use display::land;
+use display::load_number;
+use display::refused_load;
+use display::settle;
+use rules::Begun;
+use rules::EventReading;
+use rules::Shape;
+ghost use mathlib.Core.Path.{_≡_};
+ghost use Prim.Native.Nat.{_<_};
+ghost use lib.ListN.{length, drop};
+ghost use Rattle.rules.specs.Job.{jobOf};
+ghost use Rattle.rules.specs.LoadList.{eventsIn, head-size};
+ghost use Rattle.rules.specs.Refusals.{due, follow};
+ghost use Rattle.display.specs.Tick.{Room, Ticks};
+ghost use Rattle.checker.specs.Follow.{Sized, Fit};
+
+// What the list asks for in this tick, when so many of its loads have begun.
+fn asked_of(list: &[u8], count: u16, loads: u32, tick: u32) -> Begun
+    requires { ⌜ Sized count (now list) ⌝ }
+    ensures { λ r. ⌜ r ≡ due (drop loads (eventsIn count (drop head-size (now (list .entry))))) tick ⌝ }
+{
+    if count as u32 <= loads {
+        return Begun::NoLoad;
+    }
+    let reading = event_of(list, loads);
+    let EventReading::Event {
+        tick: at,
+        slot,
+        symbol,
+    } = reading
+    else {
+        return Begun::NoLoad;
+    };
+    if at == tick {
+        return Begun::Load { slot, symbol };
+    }
+    Begun::NoLoad
+}
+
+// One tick along the list, while draws remain: land, begin what the list asks for, then draw or wait.
+pub fn follow_tick(
+    job: &[u8],
+    list: &[u8],
+    shape: Shape,
+    count: u16,
+    held: &mut [u16],
+    d: Display,
+) -> Ticked
+    requires { ⌜ Fit (now job) (now list) shape count × (length (now held) ≡ shape .slots) × Room d × (d .loads < 4294967295) × (d .next < shape .draws) ⌝ }
+    ensures { λ r. ⌜ Ticks (jobOf (now (job .entry))) (follow (eventsIn count (drop head-size (now (list .entry))))) (now (held .entry)) (now (held .exit)) d r ⌝ }
+{
+    let landed = land(held, d);
+    let symbol = sheet::draw_symbol(job, shape.slots, landed.next);
+    let asked = asked_of(list, count, landed.loads, landed.tick);
+    let number = load_number(held, landed, asked);
+    if number != 0 {
+        return refused_load(landed, number);
+    }
+    let begun = begin(held, landed, shape.time, asked);
+    settle(held, begun, asked, symbol, count as u32 <= landed.loads)
+}

@@ -1,0 +1,64 @@
+// The waits behind a tick along a list: how many of them bring nothing else, and the display behind them all.
+use crate::walk::event_of;
+use display::Display;
+use display::before_end;
+use display::pass;
+use display::smaller;
+use rules::EventReading;
+use rules::Happening;
+ghost use mathlib.Core.Path.{_≡_};
+ghost use Prim.Native.Nat.{ℕ, _+_, _≤_, _<_};
+ghost use lib.ListN.{drop};
+ghost use Rattle.rules.specs.declared.Begun.the-variants.{NoLoad};
+ghost use Rattle.rules.specs.LoadList.{eventsIn, head-size};
+ghost use Rattle.rules.specs.Refusals.{due};
+ghost use Rattle.display.specs.Still.{Rested};
+ghost use Rattle.checker.specs.Follow.{Sized, Waits};
+
+// The ticks from this one on before that of the next event.
+fn ticks_ahead(list: &[u8], count: u16, loads: u32, tick: u32) -> u32
+    requires { ⌜ Sized count (now list) × (loads < count) ⌝ }
+    ensures { λ r. ⌜ ((j : ℕ) → j < r → due (drop loads (eventsIn count (drop head-size (now (list .entry))))) (tick + j) ≡ NoLoad) ⌝ }
+{
+    let reading = event_of(list, loads);
+    let EventReading::Event {
+        tick: at,
+        slot: _,
+        symbol: _,
+    } = reading
+    else {
+        return 0;
+    };
+    if tick < at {
+        return at - tick;
+    }
+    0
+}
+
+// How many ticks from this one on are waits and no more, where the awaited symbol is in no slot: up to the tick of the next event, and
+// up to the end of the load under way.
+fn still_ticks(list: &[u8], count: u16, d: Display) -> u32
+    requires { ⌜ Sized count (now list) ⌝ }
+    ensures { λ r. ⌜ Waits (eventsIn count (drop head-size (now (list .entry)))) d r ⌝ }
+{
+    if count as u32 <= d.loads {
+        return before_end(d);
+    }
+    let ahead = ticks_ahead(list, count, d.loads, d.tick);
+    if d.until == 0 {
+        return ahead;
+    }
+    smaller(ahead, before_end(d))
+}
+
+// The display behind the waits that follow a tick in which this happened: as far as nothing else can come up, and no further than the
+// limit. A draw may be followed by another, so behind it no tick is passed over.
+pub fn rest_of(list: &[u8], count: u16, d: Display, happening: Happening, limit: u32) -> Display
+    requires { ⌜ Sized count (now list) × (d .tick ≤ limit) × (d .waits ≤ d .tick) ⌝ }
+    ensures { λ r. ⌜ Rested (Waits (eventsIn count (drop head-size (now (list .entry)))) d) limit happening d r ⌝ }
+{
+    match happening {
+        Happening::Draw { slot: _ } => d,
+        Happening::Wait(_) => pass(d, smaller(limit - d.tick, still_ticks(list, count, d))),
+    }
+}

@@ -1,0 +1,187 @@
+-- The three steps of a tick of the code, one after the other, are a tick of the rules, by whatever rule the load was asked for.
+use Prim.Native.Nat.{ℕ, _+_, _≤_}
+use native.Mathlib.Nat.{le-of-eq}
+use native.Mathlib.Omega.{arith}
+use mathlib.Core.Path.{_≡_, refl, sym, ap, _∙_}
+use mathlib.Core.Bool.{Bool, false, cond}
+use mathlib.Core.List.{List, [], _∷_, _++_}
+use lib.ListN.{getD, drop}
+use lib.Dec.{eqb}
+use borrow.Author.Tests.{eq-eqb, ne-eqb}
+use Rattle.rules.specs.declared.Begun.{Begun}
+use Rattle.rules.specs.declared.Begun.the-variants.{Load, NoLoad}
+use Rattle.rules.specs.declared.Happening.{Happening}
+use Rattle.rules.specs.declared.Happening.the-variants.{Draw, Wait}
+use Rattle.rules.specs.declared.TickRecord.{TickRecord}
+use Rattle.rules.specs.Basics.{stands}
+use Rattle.rules.specs.Job.{Job}
+use Rattle.rules.specs.Display.{State, Run, Rule, drawn, going, refused, then, land, begin, beginning, happeningOf, happened, recordOf, stuck, tick}
+use Rattle.laws.proofs.Cases.{by-test}
+use Rattle.display.specs.declared.state.Display.{Display}
+use Rattle.display.specs.declared.tick.Ticked.{Ticked}
+use Rattle.display.specs.View.{Beside, view, awaiting, begunBy, besideBegun, besideMade, onward}
+use Rattle.display.specs.Tick.{Room, Settled, Ticks, numberOf, leads, missed}
+use Rattle.display.proofs.Ticks.{later-counts}
+use Rattle.display.proofs.Landed.{landed-tick, landed-next, landed-waits, landed-loads}
+
+-- ---- Step 2
+
+beginning-goes : (job : Job) (asked : Begun) (s : State) → numberOf job asked s ≡ 0 → beginning job asked s ≡ going (begunBy job asked s)
+unfolding beginning
+beginning-goes job NoLoad s none = refl
+beginning-goes job (Load q x) s none = rw (eq-eqb _ 0 none)
+
+beginning-halts : (job : Job) (asked : Begun) (s : State) → (numberOf job asked s ≡ 0 → ⊥)
+    → beginning job asked s ≡ refused (numberOf job asked s) (s .loads)
+unfolding beginning
+beginning-halts job NoLoad s some = absurd (some refl)
+beginning-halts job (Load q x) s some = rw (ne-eqb _ 0 some)
+
+begun-tick : (job : Job) (asked : Begun) (s : State) → begunBy job asked s .tick ≡ s .tick
+begun-tick job NoLoad s = refl
+begun-tick job (Load q x) s = refl
+
+begun-next : (job : Job) (asked : Begun) (s : State) → begunBy job asked s .next ≡ s .next
+begun-next job NoLoad s = refl
+begun-next job (Load q x) s = refl
+
+begun-waits : (job : Job) (asked : Begun) (s : State) → begunBy job asked s .waits ≡ s .waits
+begun-waits job NoLoad s = refl
+begun-waits job (Load q x) s = refl
+
+begun-loads : (job : Job) (asked : Begun) (s : State) → begunBy job asked s .loads ≤ s .loads + 1
+begun-loads job NoLoad s = omega arith
+begun-loads job (Load q x) s = le-of-eq refl
+
+-- In a tick in which a load begins no wait is stuck, so it does not matter when the rule is asked whether it is done.
+never-stuck : (job : Job) (q x : ℕ) (s : State) (done : Bool) → stuck (happeningOf (begin job q x s)) done ≡ false
+never-stuck job q x s done =
+    by-test (stands (getD (s .rest) 0 0) (begin job q x s .slots))
+    (λ e. rw e)
+    (λ e. rw e (by-test (eqb (getD (s .rest) 0 0) x) (λ same. rw same) (λ other. rw other)))
+
+late-done : (job : Job) (asked : Begun) (s : State) (done : Bool) (ends : State → Bool) → ends s ≡ done
+    → happened (happeningOf (begunBy job asked s)) done (begunBy job asked s)
+    ≡ happened (happeningOf (begunBy job asked s)) (ends (begunBy job asked s)) (begunBy job asked s)
+unfolding happened
+late-done job NoLoad s done ends e = rw e
+late-done job (Load q x) s done ends e = rw (never-stuck job q x s done, never-stuck job q x s (ends (begin job q x s)))
+
+-- ---- What stands beside the display
+
+same-begun : (d l : Display) (asked : Begun) (h : Beside) → l .tick ≡ d .tick → l .next ≡ d .next → besideBegun d asked h ≡ besideBegun l asked h
+same-begun d l NoLoad h t n = refl
+same-begun d l (Load q x) h t n = rw (t, n)
+
+same-made : (d d′ : Display) (hp : Happening) (h : Beside) → d′ .tick ≡ d .tick → besideMade d hp h ≡ besideMade d′ hp h
+same-made d d′ (Draw q) h e =
+    sym (ap (λ (t : ℕ). record { rest = drop 1 (h .rest); made = h .made ++ (drawn t q ∷ []); begun = h .begun }) e)
+same-made d d′ (Wait cause) h e = refl
+
+pub begun-rest : (d : Display) (asked : Begun) (h : Beside) → besideBegun d asked h .rest ≡ h .rest
+begun-rest d NoLoad h = refl
+begun-rest d (Load q x) h = refl
+
+same-leads : (slots : List ℕ) (f g : TickRecord → Beside) (r : Ticked) → f (r .on_record) ≡ g (r .on_record) → leads slots f r ≡ leads slots g r
+same-leads slots f g r e =
+    ap (λ (h : Beside). cond (eqb (r .number) 0) (going (view slots h (r .display))) (refused (r .number) (r .detail))) e
+
+-- A wait on record says that the awaited symbol is in no slot.
+missed-of : (asked : Begun) (x : ℕ) (slots : List ℕ) (d : Display) → missed (happeningOf (view slots (awaiting x) d)) x slots
+missed-of asked x slots d = by-test (stands x slots) (λ held. rw held tt) (λ absent. rw absent absent)
+
+-- ---- The tick
+
+module _ (job : Job) (rule : Rule) (slots slots₁ : List ℕ) (d l : Display)
+    (lands : (h : Beside) → view slots₁ h l ≡ land (view slots h d)) (asked : Begun)
+    (asks : (h : Beside) → h .rest ≡ drop (d .next) (job .draws) → asked ≡ rule .asks (view slots₁ h l)) (number : ℕ)
+    (numbered : (h : Beside) → number ≡ numberOf job asked (view slots₁ h l)) where
+  -- The tick of the rules, from the landed display on.
+  from-landed : (h : Beside) → h .rest ≡ drop (d .next) (job .draws)
+      → tick job rule (view slots h d)
+      ≡ then (beginning job asked (view slots₁ h l)) (λ b. happened (recordOf asked b .happening) (rule .done b) b)
+  unfolding tick
+  from-landed h remain =
+      ap (λ (s : State). then (beginning job (rule .asks s) s) (λ b. happened (recordOf (rule .asks s) b .happening) (rule .done b) b))
+      (sym (lands h))
+      ∙ ap
+      (λ (x : Begun). then (beginning job x (view slots₁ h l)) (λ b. happened (recordOf x b .happening) (rule .done b) b))
+      (sym (asks h remain))
+
+  pub ticks-refused : (number ≡ 0 → ⊥) → (r : Ticked) → r .number ≡ number → r .detail ≡ l .loads → Ticks job rule slots slots₁ d r
+  ticks-refused some r same detailed =
+      record {
+        counts = λ none. absurd (some (sym same ∙ none));
+        waits = λ none. absurd (some (sym same ∙ none));
+        run = λ h remain.
+            let here : State = view slots₁ h l in
+            let halts : (numberOf job asked here ≡ 0 → ⊥) = λ none. some (numbered h ∙ none) in
+            rw (same, detailed, ne-eqb number 0 some)
+            (sym
+            (from-landed h remain
+            ∙ ap (λ (x : Run). then x (λ b. happened (recordOf asked b .happening) (rule .done b) b))
+            (beginning-halts job asked here halts ∙ ap (λ (n : ℕ). refused n (l .loads)) (sym (numbered h)))));
+      }
+
+  module _ (none : number ≡ 0) (slots₂ : List ℕ) (b : Display)
+      (begins : (h : Beside) → view slots₂ (besideBegun l asked h) b ≡ begunBy job asked (view slots₁ h l)) where
+    empty : Beside
+    empty = record { rest = []; made = []; begun = [] }
+
+    begun-tick′ : b .tick ≡ l .tick
+    begun-tick′ = ap (λ (s : State). s .tick) (begins empty) ∙ begun-tick job asked (view slots₁ empty l)
+
+    begun-next′ : b .next ≡ l .next
+    begun-next′ = ap (λ (s : State). s .next) (begins empty) ∙ begun-next job asked (view slots₁ empty l)
+
+    begun-waits′ : b .waits ≡ l .waits
+    begun-waits′ = ap (λ (s : State). s .waits) (begins empty) ∙ begun-waits job asked (view slots₁ empty l)
+
+    begun-loads′ : b .loads ≤ l .loads + 1
+    begun-loads′ =
+        let same : b .loads ≡ begunBy job asked (view slots₁ empty l) .loads = ap (λ (s : State). s .loads) (begins empty) in
+        let few : begunBy job asked (view slots₁ empty l) .loads ≤ l .loads + 1 = begun-loads job asked (view slots₁ empty l) in
+        omega arith
+
+    pub room-begun : Room l → Room b
+    room-begun room =
+        let tick′ : b .tick ≡ l .tick = begun-tick′ in
+        let next′ : b .next ≡ l .next = begun-next′ in
+        let waits′ : b .waits ≡ l .waits = begun-waits′ in
+        record { tick = omega arith; next = omega arith; waits = omega arith }
+
+    module _ (symbol : ℕ) (awaits : getD (drop (d .next) (job .draws)) 0 0 ≡ symbol) (done : Bool)
+        (ends : (h : Beside) → rule .done (view slots₁ h l) ≡ done) (r : Ticked) (settled : Settled slots₂ b asked symbol done r) where
+      same-asked : r .on_record .begun ≡ asked
+      same-asked = ap (λ (t : TickRecord). t .begun) (settled .recorded)
+
+      same-onward : (h : Beside) → onward d (r .on_record) h ≡ besideMade b (r .on_record .happening) (besideBegun l asked h)
+      same-onward h =
+          let same-tick : b .tick ≡ d .tick = begun-tick′ ∙ landed-tick slots slots₁ d l lands in
+          ap (λ (x : Begun). besideMade d (r .on_record .happening) (besideBegun d x h)) same-asked
+          ∙ ap (besideMade d (r .on_record .happening))
+          (same-begun d l asked h (landed-tick slots slots₁ d l lands) (landed-next slots slots₁ d l lands))
+          ∙ same-made d b (r .on_record .happening) (besideBegun l asked h) same-tick
+
+      pub ticks-went : Ticks job rule slots slots₂ d r
+      ticks-went =
+          record {
+            counts = λ went.
+                let loads′ : l .loads ≡ d .loads = landed-loads slots slots₁ d l lands in
+                let more : b .loads ≤ l .loads + 1 = begun-loads′ in
+                later-counts 1 0 (r .on_record .happening) d b (r .display) (begun-tick′ ∙ landed-tick slots slots₁ d l lands)
+                (begun-next′ ∙ landed-next slots slots₁ d l lands) (begun-waits′ ∙ landed-waits slots slots₁ d l lands) (omega arith)
+                (settled .counts went);
+            waits = λ went.
+                rw (awaits, settled .recorded) (missed-of asked symbol slots₂ b);
+            run = λ h remain.
+                let here : State = view slots₁ h l in
+                same-leads slots₂ (λ t. onward d t h) (λ t. besideMade b (t .happening) (besideBegun l asked h)) r (same-onward h)
+                ∙ settled .run (besideBegun l asked h) (ap (λ (x : List ℕ). getD x 0 0) (begun-rest l asked h ∙ remain) ∙ awaits)
+                ∙ ap (λ (s : State). happened (happeningOf s) done s) (begins h)
+                ∙ late-done job asked here done (rule .done) (ends h)
+                ∙ sym
+                (from-landed h remain
+                ∙ ap (λ (x : Run). then x (λ s. happened (recordOf asked s .happening) (rule .done s) s))
+                (beginning-goes job asked here (sym (numbered h) ∙ none)));
+          }

@@ -1,0 +1,47 @@
+// A stretch of ticks that are waits and no more: how far it can reach before a load under way ends, and the display behind it.
+use crate::state::Display;
+ghost use mathlib.Core.Path.{_≡_};
+ghost use Prim.Native.Nat.{_+_, _-_, _≤_, min};
+ghost use Rattle.display.specs.Still.{passed};
+
+// The smaller of two numbers of ticks.
+pub fn smaller(a: u32, b: u32) -> u32
+    ensures { λ r. ⌜ r ≡ min a b ⌝ }
+{
+    if a < b { a } else { b }
+}
+
+// The ticks before the one in which the load under way ends; none where no load is under way.
+pub fn before_end(d: Display) -> u32
+    ensures { λ r. ⌜ r ≡ d .until - 1 ⌝ }
+{
+    if d.until == 0 {
+        return 0;
+    }
+    (d.until - 1) as u32
+}
+
+fn less(until: u16, ticks: u32) -> u16
+    ensures { λ r. ⌜ r ≡ until - ticks ⌝ }
+{
+    if until as u32 <= ticks {
+        return 0;
+    }
+    (until as u32 - ticks) as u16
+}
+
+// The display behind so many waits.
+pub fn pass(d: Display, ticks: u32) -> Display
+    requires { ⌜ (d .tick + ticks ≤ 4294967295) × (d .waits + ticks ≤ 4294967295) ⌝ }
+    ensures { λ r. ⌜ r ≡ passed ticks d ⌝ }
+{
+    Display {
+        tick: d.tick + ticks,
+        waits: d.waits + ticks,
+        loads: d.loads,
+        next: d.next,
+        until: less(d.until, ticks),
+        into: d.into,
+        what: d.what,
+    }
+}

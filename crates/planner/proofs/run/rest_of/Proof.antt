@@ -1,0 +1,70 @@
+-- Behind a draw no tick is passed over, behind a wait all up to the end of the load under way.
+use Prim.Native.Nat.{_+_, _-_, _≤_, min}
+use native.Mathlib.Omega.{arith}
+use mathlib.Core.Path.{_≡_, ap}
+use borrow.Author.Needs.{needs}
+use Rattle.rules.specs.LoadList.{last-tick}
+use Rattle.display.specs.Still.{waiting}
+use Rattle.planner.proofs.Walks.{waits-none}
+use Rattle.planner.proofs.run.rest_of.Statement.{statement}
+use Rattle.planner.proofs.run.rest_of.Tie as tie
+
+enum-told : tie.Need-enum-told
+enum-told c = search needs
+
+enum-told-2 : tie.Need-enum-told-2
+enum-told-2 c = search needs
+
+sub-smaller : tie.Need-sub-smaller
+sub-smaller c = search needs
+
+before-end-requires : tie.Need-before-end-requires
+before-end-requires c κs = search needs
+
+smaller-requires : tie.Need-smaller-requires
+smaller-requires c κs = search needs
+
+pass-requires : tie.Need-pass-requires
+pass-requires c κs = search needs
+
+returns : tie.Need-returns
+returns c =
+    let d = c .before .before .args .d in
+    let here : d .tick + 0 ≡ d .tick = omega arith in
+    let waits : d .waits + 0 ≡ d .waits = omega arith in
+    let until : d .until - 0 ≡ d .until = omega arith in
+    let early : d .tick ≤ last-tick = c .before .before .pre .0 in
+    record {
+      many = 0;
+      passes = rw (here, waits, until);
+      in-time = omega arith;
+      behind = λ some. absurd (omega arith);
+      still = waits-none d;
+    }
+
+returns-2 : tie.Need-returns-2
+returns-2 c =
+    let d = c .before .before .before .before .before .before .args .d in
+    let end : c .before .before .before-end .result ≡ d .until - 1 = c .before .before .before-end .ensures in
+    let fewer : c .before .smaller .result ≡ min (8388607 - d .tick) (c .before .before .before-end .result) = c .before .smaller .ensures in
+    let early : d .tick ≤ last-tick = c .before .before .before .before .before .before .pre .0 in
+    record {
+      many = c .before .smaller .result;
+      passes = c .pass .ensures;
+      in-time = omega arith;
+      behind = λ some. ap waiting (c .before .before .before .before .enum-told2 .given .1);
+      still = record { before-end = λ ends. omega arith; under-way = λ some. omega arith };
+    }
+
+pub rest-of-spec : {M : Type 1} → statement M
+rest-of-spec =
+    tie.close
+    (tie.spec
+    enum-told
+    enum-told-2
+    sub-smaller
+    before-end-requires
+    smaller-requires
+    pass-requires
+    returns
+    returns-2)
