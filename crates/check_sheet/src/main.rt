@@ -3,52 +3,59 @@
 use libc::STDERR_FILENO;
 use libc::STDOUT_FILENO;
 use report::say;
+use report::say_counts;
 use report::say_number;
-use rules::Answer;
 use rules::JobReading;
 
-fn print_draw(draw: u16, symbol: u16, tick: u32, slot: u8) {
-    io::print_decimal(STDOUT_FILENO, draw as u64);
-    say_number(STDOUT_FILENO, symbol as u32);
-    say_number(STDOUT_FILENO, tick);
-    say_number(STDOUT_FILENO, slot as u32);
-    say(STDOUT_FILENO, b"\n");
+// Each of these answers whether all of it was written; the first write that fails is the last that is tried.
+fn print_draw(draw: u16, symbol: u16, tick: u32, slot: u8) -> bool {
+    io::print_decimal(STDOUT_FILENO, draw as u64)
+        && say_number(STDOUT_FILENO, symbol as u32)
+        && say_number(STDOUT_FILENO, tick)
+        && say_number(STDOUT_FILENO, slot as u32)
+        && say(STDOUT_FILENO, b"\n")
 }
 
 // The loop goes over the places lent and not over the job's draws, so that each place is there.
-fn print_draws(job: &[u8], ticks: &[u32; 4096], slots: &[u8; 4096]) {
+fn print_draws(job: &[u8], ticks: &[u32; 4096], slots: &[u8; 4096]) -> bool {
     let reading = sheet::read_job(job);
     let JobReading::Taken(shape) = reading else {
-        return;
+        return true;
     };
     for draw in 0..4096u16 {
         if shape.draws <= draw {
-            return;
+            return true;
         }
         let symbol = sheet::draw_symbol(job, shape.slots, draw);
-        print_draw(draw, symbol, ticks[draw as usize], slots[draw as usize]);
+        if !print_draw(draw, symbol, ticks[draw as usize], slots[draw as usize]) {
+            return false;
+        }
     }
+    true
 }
 
-fn print_counts(answer: Answer) {
-    say(STDOUT_FILENO, b"accepted");
-    say_number(STDOUT_FILENO, answer.elapsed);
-    say_number(STDOUT_FILENO, answer.waits);
-    say_number(STDOUT_FILENO, answer.loads);
-    say(STDOUT_FILENO, b"\n");
+fn print_refusal(number: u32, detail: u32) -> bool {
+    report::say_refusal(STDOUT_FILENO, number, detail)
+        && report::say_words(STDOUT_FILENO, number, detail)
 }
 
-fn print_check(job: &[u8], list: &[u8]) {
+fn print_check(job: &[u8], list: &[u8]) -> bool {
     let mut ticks = [0u32; 4096];
     let mut slots = [0u8; 4096];
     let answer = checker::check(job, list, &mut ticks, &mut slots);
     if answer.number != 0 {
-        report::say_refusal(STDOUT_FILENO, answer.number, answer.detail);
-        report::say_words(STDOUT_FILENO, answer.number, answer.detail);
-        return;
+        return print_refusal(answer.number, answer.detail);
     }
-    print_counts(answer);
-    print_draws(job, &ticks, &slots);
+    if !say_counts(
+        STDOUT_FILENO,
+        b"accepted",
+        answer.elapsed,
+        answer.waits,
+        answer.loads,
+    ) {
+        return false;
+    }
+    print_draws(job, &ticks, &slots)
 }
 
 // A job has at most 8,330 bytes and a list at most 28,679.
@@ -69,5 +76,7 @@ fn main() {
     }
     let job_count = job_reading.count;
     let list_count = list_reading.count;
-    print_check(&job[..job_count], &list[..list_count]);
+    if !print_check(&job[..job_count], &list[..list_count]) {
+        os::fail(b"cannot write the answer");
+    }
 }

@@ -2,32 +2,38 @@
 use crate::names::plan_of;
 use libc::STDIN_FILENO;
 use libc::STDOUT_FILENO;
-use report::say;
-use report::say_number;
 
-// The line of one plan, or of its refusal. Answers whether the job was planned. The room is that of the longest list.
+// Says on standard error that a line could not be written.
+fn written(whole: bool) -> bool {
+    if !whole {
+        os::fail(b"cannot write the summary");
+    }
+    whole
+}
+
+// The line of one plan, or of its refusal. Answers whether the job was planned and the line written. The room is that of the longest list.
 fn print_plan(job: &[u8], name: &[u8]) -> bool {
     let mut room = [0u8; 28679];
     let answer = planner::plan(job, plan_of(name), &mut room);
     if answer.number != 0 {
-        report::say_refusal(STDOUT_FILENO, answer.number, answer.detail);
+        written(report::say_refusal(STDOUT_FILENO, answer.number, answer.detail));
         return false;
     }
-    say(STDOUT_FILENO, name);
-    say_number(STDOUT_FILENO, answer.elapsed);
-    say_number(STDOUT_FILENO, answer.waits);
-    say_number(STDOUT_FILENO, answer.loads);
-    say(STDOUT_FILENO, b"\n");
-    true
+    written(report::say_counts(
+        STDOUT_FILENO,
+        name,
+        answer.elapsed,
+        answer.waits,
+        answer.loads,
+    ))
 }
 
-// A job that one plan refuses all refuse, so the first refusal is the only line.
-fn print_plans(job: &[u8]) {
-    if print_plan(job, b"aggressive") {
-        print_plan(job, b"conservative");
-        print_plan(job, b"opt");
-        print_plan(job, b"lru");
-    }
+// A job that one plan refuses all refuse, so the first refusal is the only line; and after a line that could not be written no other is tried.
+fn print_plans(job: &[u8]) -> bool {
+    print_plan(job, b"aggressive")
+        && print_plan(job, b"conservative")
+        && print_plan(job, b"opt")
+        && print_plan(job, b"lru")
 }
 
 // The longest job has 8,330 bytes. One more is read, so that a longer input is refused by the bytes that were read.

@@ -7,6 +7,7 @@ mod words;
 pub use file::Reading;
 pub use file::read_argument;
 pub use line::say;
+pub use line::say_counts;
 pub use line::say_number;
 pub use line::say_refusal;
 pub use words::say_words;

@@ -3,14 +3,12 @@ use crate::line::say;
 use crate::line::say_number;
 
 // A line about an event or a draw: what it is, its number, and what is wrong with it.
-fn say_of(to: i32, what: &[u8], detail: u32, wrong: &[u8]) {
-    say(to, what);
-    say_number(to, detail);
-    say(to, wrong);
+fn say_of(to: i32, what: &[u8], detail: u32, wrong: &[u8]) -> bool {
+    say(to, what) && say_number(to, detail) && say(to, wrong)
 }
 
 // Refusals 1 to 7, of a job, a plan's number or the lent room: they have no detail.
-fn say_whole(to: i32, number: u32) {
+fn say_whole(to: i32, number: u32) -> bool {
     match number {
         1 => say(
             to,
@@ -35,7 +33,7 @@ fn say_whole(to: i32, number: u32) {
 }
 
 // Refusals 8 to 15, of a list or a run.
-fn say_run(to: i32, number: u32, detail: u32) {
+fn say_run(to: i32, number: u32, detail: u32) -> bool {
     match number {
         8 => say(
             to,
@@ -72,10 +70,10 @@ fn say_run(to: i32, number: u32, detail: u32) {
 }
 
 // The line in words for a refusal with this number and detail.
-pub fn say_words(to: i32, number: u32, detail: u32) {
+pub fn say_words(to: i32, number: u32, detail: u32) -> bool {
     if number < 8 {
-        say_whole(to, number);
+        say_whole(to, number)
     } else {
-        say_run(to, number, detail);
+        say_run(to, number, detail)
     }
 }

@@ -1,5 +1,4 @@
--- `check_sheet::print_draws` is safe and ends: the loop's own bound keeps each place inside the lent buffers. Nothing has to hold from turn to turn.
--- Assumes nothing.
+-- `print_draws` is safe and ends: the loop's own bound keeps each place inside the lent buffers. Nothing has to hold from turn to turn.
 use Prim.Native.Nat.{_-_}
 use borrow.Author.Needs.{needs}
 use Rattle.check_sheet.proofs.print_draws.Statement.{statement}
@@ -50,6 +49,9 @@ element-copy-out-print-draw-2 c = search needs
 print-draw-requires : tie.Need-print-draw-requires Inv-loop μ-loop
 print-draw-requires c κs = search needs
 
+returns-3 : tie.Need-returns-3 Inv-loop μ-loop
+returns-3 c = search needs
+
 add-draw : tie.Need-add-draw Inv-loop μ-loop
 add-draw c = search needs
 
@@ -59,8 +61,8 @@ loop-less c = search needs
 loop-again : tie.Need-loop-again Inv-loop μ-loop
 loop-again c = search needs
 
-returns-3 : tie.Need-returns-3 Inv-loop μ-loop
-returns-3 c = search needs
+returns-4 : tie.Need-returns-4 Inv-loop μ-loop
+returns-4 c = search needs
 
 pub print-draws-spec : {M : Type 1} → statement M
 print-draws-spec =
@@ -81,7 +83,8 @@ print-draws-spec =
     cast-print-draw-2
     element-copy-out-print-draw-2
     print-draw-requires
+    returns-3
     add-draw
     loop-less
     loop-again
-    returns-3)
+    returns-4)
