@@ -1,10 +1,11 @@
 -- A tick begins with landing: what the display before it and the landed one have in common, and the symbol that both await.
 use Prim.Native.Nat.{ℕ, _+_, _*_, _<_}
 use native.Mathlib.Omega.{arith}
-use mathlib.Core.Path.{_≡_, ap}
+use mathlib.Core.Path.{_≡_, sym, ap, _∙_}
 use mathlib.Core.List.{List, []}
 use lib.ListN.{getD, drop}
 use lib.Seq.{getD-drop}
+use Rattle.rules.specs.declared.Shape.{Shape}
 use Rattle.rules.specs.Basics.{number16}
 use Rattle.rules.specs.Job.{shapeOf, drawsOf, draws-at}
 use Rattle.rules.specs.Display.{State, land}
@@ -13,10 +14,10 @@ use Rattle.display.specs.declared.state.Display.{Display}
 use Rattle.display.specs.View.{Beside, view}
 use Rattle.display.specs.Tick.{Room}
 
--- The symbol that is awaited, read from the job's bytes.
-pub awaited-read : (job : List ℕ) (next : ℕ) → next < shapeOf job .draws
+-- The symbol of a draw, read from the job's bytes.
+draw-read : (job : List ℕ) (next : ℕ) → next < shapeOf job .draws
     → getD (drop next (drawsOf job)) 0 0 ≡ number16 job (draws-at (shapeOf job .slots) + 2 * next)
-awaited-read job next h =
+draw-read job next h =
     let there : next + 0 ≡ next = omega arith in
     rw (getD-drop, there, symbol-at (shapeOf job .draws) (drop (draws-at (shapeOf job .slots)) job) next h, number16-drop)
 
@@ -43,3 +44,14 @@ module _ (slots slots₁ : List ℕ) (d l : Display) (lands : (h : Beside) → v
       let next′ : l .next ≡ d .next = landed-next in
       let waits′ : l .waits ≡ d .waits = landed-waits in
       record { tick = omega arith; next = omega arith; waits = omega arith }
+
+  -- The symbol that is awaited, read for the landed display.
+  pub landed-awaits : (job : List ℕ) (shape : Shape) (symbol : ℕ) → shape ≡ shapeOf job → d .next < shape .draws
+      → symbol ≡ number16 job (draws-at (shape .slots) + 2 * l .next)
+      → getD (drop (d .next) (drawsOf job)) 0 0 ≡ symbol
+  landed-awaits job shape symbol shaped within read =
+      draw-read job (d .next) (rw shaped at within)
+      ∙ sym
+      (read
+      ∙ ap (λ (s : Shape). number16 job (draws-at (s .slots) + 2 * l .next)) shaped
+      ∙ ap (λ (n : ℕ). number16 job (draws-at (shapeOf job .slots) + 2 * n)) landed-next)

@@ -1,5 +1,5 @@
 -- A stretch of waits at once: so many ticks of a run in which nothing lands, begins or is drawn lead to the display that many ticks on.
-use Prim.Native.Nat.{ℕ, zero, suc, _+_, _-_, _<_}
+use Prim.Native.Nat.{ℕ, zero, suc, _+_, _-_, _≤_, _<_}
 use native.Mathlib.Omega.{arith}
 use mathlib.Core.Path.{_≡_, refl, sym, ap, _∙_}
 use mathlib.Core.Bool.{Bool, false}
@@ -7,6 +7,7 @@ use mathlib.Core.List.{List}
 use lib.ListN.{getD}
 use lib.Dec.{eqb}
 use Rattle.rules.specs.declared.Begun.the-variants.{NoLoad}
+use Rattle.rules.specs.declared.Happening.{Happening}
 use Rattle.rules.specs.declared.Happening.the-variants.{Wait}
 use Rattle.rules.specs.Basics.{stands}
 use Rattle.rules.specs.Job.{Job}
@@ -15,13 +16,28 @@ use Rattle.laws.proofs.Cases.{by-test}
 use Rattle.laws.proofs.Runs.{run-unfinished}
 use Rattle.display.specs.declared.state.Display.{Display}
 use Rattle.display.specs.View.{Beside, loadingOf, view}
-use Rattle.display.specs.Still.{passed}
+use Rattle.display.specs.Still.{passed, Rested}
 use Rattle.display.proofs.Views.{nearer, nearer-lands}
 
 -- A wait is not stuck while a load is under way, nor while the rule is not done.
 not-stuck : (until q y x : ℕ) (done : Bool) → (until ≡ 0 → done ≡ false) → stuck (Wait (causeOf (loadingOf until q y) x)) done ≡ false
 not-stuck zero q y x done goes-on = goes-on refl
 not-stuck (suc left) q y x done goes-on = by-test (eqb x y) (λ same. rw same) (λ other. rw other)
+
+-- No stretch at all, behind whatever happened.
+pub rested-none : (quiet : ℕ → Type 0) (limit : ℕ) (happening : Happening) (d : Display) → d .tick ≤ limit → quiet 0
+    → Rested quiet limit happening d d
+rested-none quiet limit happening d early still =
+    let ticks : d .tick + 0 ≡ d .tick = omega arith in
+    let waits : d .waits + 0 ≡ d .waits = omega arith in
+    let until : d .until - 0 ≡ d .until = omega arith in
+    record {
+      many = 0;
+      passes = rw (ticks, waits, until);
+      in-time = omega arith;
+      behind = λ some. absurd (omega arith);
+      still = still;
+    }
 
 module _ (job : Job) (rule : Rule) where
   tick-waits : (s l : State) → l ≡ land s → rule .asks l ≡ NoLoad → stands (awaited l) (l .slots) ≡ false

@@ -1,11 +1,11 @@
 -- The run of a plan, tick by tick: the rule it goes by, the loads noted, the waits passed over, and what the loop of the code keeps.
-use Prim.Native.Nat.{ℕ, zero, suc, _+_, _-_, _<_, _≤_}
+use Prim.Native.Nat.{ℕ, zero, suc, _+_, _-_, _<_, _≤_, _*_}
 use native.Mathlib.Omega.{arith}
 use native.Mathlib.Numerals.{add-one}
 use mathlib.Core.Path.{_≡_, refl, sym, ap, _∙_}
 use mathlib.Core.Bool.{true, false, cond}
 use mathlib.Core.List.{List, [], _∷_, map}
-use lib.ListN.{length, take, drop, drop-of-length-le, length-set}
+use lib.ListN.{length, getD, take, drop, drop-of-length-le, length-set}
 use lib.Seq.{take-suc-set}
 use lib.Dec.{leb}
 use borrow.Author.Tests.{eq-eqb, le-leb, lt-leb}
@@ -15,9 +15,11 @@ use Rattle.rules.specs.declared.Happening.{Happening}
 use Rattle.rules.specs.declared.Happening.the-variants.{Draw, Wait}
 use Rattle.rules.specs.declared.TickRecord.{TickRecord}
 use Rattle.rules.specs.declared.Loading.the-variants.{Idle}
-use Rattle.rules.specs.Job.{Job, startingOf, drawsOf, jobOf, most-draws}
+use Rattle.rules.specs.declared.Shape.{Shape}
+use Rattle.rules.specs.Basics.{number16}
+use Rattle.rules.specs.Job.{Job, shapeOf, startingOf, drawsOf, draws-at, jobOf, most-draws}
 use Rattle.rules.specs.LoadList.{last-tick}
-use Rattle.rules.specs.Display.{State, Rule, Loaded, loaded, going, refused, then, start, land, idle, beginning, happened, recordOf, tick, finished}
+use Rattle.rules.specs.Display.{State, Rule, Loaded, loaded, going, refused, then, start, land, idle, beginning, happened, recordOf, tick, finished, awaited}
 use Rattle.rules.specs.Plans.{asking, earliest, opt, runPlan, begunIn, ruleOf}
 use Rattle.rules.specs.Refusals.{inTime}
 use Rattle.laws.proofs.Rows.{map-snoc, length-snoc}
@@ -28,10 +30,11 @@ use Rattle.display.specs.View.{Beside, view, besideBegun, besideMade, onward}
 use Rattle.display.specs.Tick.{Ticks}
 use Rattle.display.specs.Still.{passed, Rested}
 use Rattle.display.proofs.Views.{nearer, under-way}
+use Rattle.display.proofs.Landed.{landed-next, landed-awaits}
 use Rattle.display.proofs.Stretches.{Quiet}
 use Rattle.display.proofs.Going.{Going, going-start, going-over, going-late, going-more, going-refused, going-on}
 use Rattle.planner.specs.declared.ask.Order.{Order}
-use Rattle.planner.specs.Asks.{orderAsks, asksBy}
+use Rattle.planner.specs.Asks.{orderAsks, asksBy, rowOf}
 use Rattle.planner.specs.Loads.{Whole, Noted, loadTick, loadDraw, loadSlot, loadSymbol, notedLoad}
 use Rattle.planner.specs.Runs.{Waits}
 
@@ -57,6 +60,27 @@ ruled plan job order held held′ d r ordered ticks =
       waits = ticks .waits;
       run = λ h e. ticks .run h e ∙ same-tick plan job order (view held h d) (λ one. ordered one (land (view held h d)));
     }
+
+-- What is asked for with the landed display at hand is what the plan asks for in its state.
+pub asked-landed : (plan : ℕ) (job : List ℕ) (shape : Shape) (order : Order) (row held held₁ : List ℕ) (d l : Display)
+    → ((h : Beside) → view held₁ h l ≡ land (view held h d))
+    → (symbol : ℕ) (asked : Begun)
+    → shape ≡ shapeOf job
+    → d .next < shape .draws
+    → symbol ≡ number16 job (draws-at (shape .slots) + 2 * l .next)
+    → rowOf plan (drawsOf job) ≡ row
+    → ((h : Beside) (job′ : Job)
+    → rowOf plan (job′ .draws) ≡ row
+    → h .rest ≡ drop (l .next) (job′ .draws)
+    → awaited (view held₁ h l) ≡ symbol
+    → asked ≡ asksBy plan job′ order (view held₁ h l))
+    → (h : Beside)
+    → h .rest ≡ drop (d .next) (drawsOf job)
+    → asked ≡ asksBy plan (jobOf job) order (view held₁ h l)
+asked-landed plan job shape order row held held₁ d l lands symbol asked shaped within read turned asks h remain =
+    asks h (jobOf job) turned
+    (remain ∙ ap (λ (n : ℕ). drop n (drawsOf job)) (sym (landed-next held held₁ d l lands)))
+    (ap (λ (rest : List ℕ). getD rest 0 0) remain ∙ landed-awaits held held₁ d l lands job shape symbol shaped within read)
 
 -- While a load is under way no plan asks for another.
 earliest-busy : (l : List Loaded) (s : State) → idle (s .loading) ≡ false → earliest l s ≡ NoLoad

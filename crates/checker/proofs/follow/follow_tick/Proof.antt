@@ -1,18 +1,17 @@
 -- `follow_tick` meets its contract: its three steps are a tick along the list.
-use Prim.Native.Nat.{ℕ, _+_, _*_}
+use Prim.Native.Nat.{ℕ}
 use native.Mathlib.Omega.{arith}
 use mathlib.Core.List.{List}
 use mathlib.Core.Path.{_≡_, sym, ap, _∙_}
 use lib.Dec.{leb}
 use lib.ListN.{getD, length, drop}
 use borrow.Author.Needs.{needs}
-use Rattle.rules.specs.Basics.{number16}
-use Rattle.rules.specs.Job.{drawsOf, draws-at, shapeOf, jobOf}
+use Rattle.rules.specs.Job.{drawsOf, shapeOf, jobOf}
 use Rattle.rules.specs.LoadList.{Event, eventsIn, head-size}
 use Rattle.rules.specs.Refusals.{follow}
 use Rattle.rules.specs.declared.Shape.{Shape}
 use Rattle.laws.proofs.Events.{length-eventsIn}
-use Rattle.display.proofs.Landed.{awaited-read, landed-loads, landed-next, landed-room}
+use Rattle.display.proofs.Landed.{landed-awaits, landed-loads, landed-room}
 use Rattle.display.proofs.Steps.{ticks-refused, ticks-went, room-begun}
 use Rattle.checker.proofs.follow.follow_tick.Statement.{statement}
 use Rattle.checker.proofs.follow.follow_tick.Tie as tie
@@ -83,11 +82,8 @@ returns-2 c =
     let size : shapeOf (a .job .now) .slots ≡ length (landed .last .0) =
     sym (landed .kept .0 ∙ c .before .before .before .before .before .before .before .before .before .before .before .before .before .before .before .before .before .before .before .pre .1 ∙ ap (λ (s : Shape). s .slots) (fit .shaped)) in
     let awaits : getD (drop (a .d .next) (drawsOf (a .job .now))) 0 0 ≡ c .before .before .before .before .before .before .before .before .before .before .before .draw-symbol .result =
-    awaited-read (a .job .now) (a .d .next) (rw (fit .shaped) at (c .before .before .before .before .before .before .before .before .before .before .before .before .before .before .before .before .before .before .before .pre .4))
-    ∙ sym (c .before .before .before .before .before .before .before .before .before .before .before .draw-symbol .ensures
-    ∙ ap (λ (s : Shape). number16 (a .job .now) (draws-at (s .slots) + 2 * landed .result .next)) (fit .shaped)
-    ∙ ap (λ (n : ℕ). number16 (a .job .now) (draws-at (shapeOf (a .job .now) .slots) + 2 * n))
-    (landed-next (a .held .now) (landed .last .0) (a .d) (landed .result) (landed .ensures))) in
+    landed-awaits (a .held .now) (landed .last .0) (a .d) (landed .result) (landed .ensures) (a .job .now) (a .shape) (c .before .before .before .before .before .before .before .before .before .before .before .draw-symbol .result)
+    (fit .shaped) (c .before .before .before .before .before .before .before .before .before .before .before .before .before .before .before .before .before .before .before .pre .4) (c .before .before .before .before .before .before .before .before .before .before .before .draw-symbol .ensures) in
     ticks-went (jobOf (a .job .now)) (follow events) (a .held .now) (landed .last .0) (a .d) (landed .result) (landed .ensures)
     (c .before .before .before .before .before .before .before .before .before .before .asked-of .result) (λ h remain. c .before .before .before .before .before .before .before .before .before .before .asked-of .ensures) (c .before .before .before .before .before .before .before .before .load-number .result)
     (λ h. c .before .before .before .before .before .before .before .before .load-number .ensures h (jobOf (a .job .now)) size) (c .before .before .before .before .before .before .before .if1 .left) (c .before .before .before .before .before .begin .last .0) (c .before .before .before .before .before .begin .result)

@@ -1,8 +1,9 @@
 -- `rest_of` meets its contract: behind a draw no tick is passed over, behind a wait as many as are still.
-use Prim.Native.Nat.{_+_, _-_, _≤_, min}
+use Prim.Native.Nat.{_-_, _≤_, min}
 use native.Mathlib.Omega.{arith}
 use mathlib.Core.Path.{_≡_, ap}
 use borrow.Author.Needs.{needs}
+use Rattle.display.proofs.Stretches.{rested-none}
 use Rattle.display.specs.Still.{waiting}
 use Rattle.checker.proofs.Walks.{waits-none, waits-fewer}
 use Rattle.checker.proofs.rest.rest_of.Statement.{statement}
@@ -28,18 +29,8 @@ pass-requires c κs = search needs
 
 returns : tie.Need-returns
 returns c =
-    let d = c .before .before .before .args .d in
-    let here : d .tick + 0 ≡ d .tick = omega arith in
-    let waits : d .waits + 0 ≡ d .waits = omega arith in
-    let until : d .until - 0 ≡ d .until = omega arith in
-    let early : d .tick ≤ c .before .before .before .args .limit = c .before .before .before .pre .1 in
-    record {
-      many = 0;
-      passes = rw (here, waits, until);
-      in-time = omega arith;
-      behind = λ some. absurd (omega arith);
-      still = waits-none _ d;
-    }
+    let a = c .before .before .before .args in
+    rested-none _ (a .limit) (a .happening) (a .d) (c .before .before .before .pre .1) (waits-none _ (a .d))
 
 returns-2 : tie.Need-returns-2
 returns-2 c =

@@ -1,22 +1,19 @@
 -- The three steps are a tick by what the plan asks for in the landed display.
-use Prim.Native.Nat.{ℕ, _+_, _*_}
 use native.Mathlib.Omega.{arith}
 use mathlib.Core.Bool.{true}
-use mathlib.Core.List.{List}
 use mathlib.Core.Path.{_≡_, refl, sym, ap, _∙_}
-use lib.ListN.{length, getD, drop}
+use lib.ListN.{length}
 use borrow.Author.Needs.{needs}
-use Rattle.rules.specs.Basics.{number16}
 use Rattle.rules.specs.Display.{Rule}
-use Rattle.rules.specs.Job.{shapeOf, drawsOf, draws-at, jobOf}
+use Rattle.rules.specs.Job.{shapeOf, drawsOf, jobOf}
 use Rattle.rules.specs.Plans.{asking}
 use Rattle.rules.specs.declared.Shape.{Shape}
 use Rattle.laws.proofs.Symbols.{length-symbols}
-use Rattle.display.proofs.Landed.{awaited-read, landed-loads, landed-next, landed-room}
+use Rattle.display.proofs.Landed.{landed-awaits, landed-loads, landed-next, landed-room}
 use Rattle.display.proofs.Steps.{ticks-refused, ticks-went, room-begun}
-use Rattle.display.specs.View.{Beside, view}
 use Rattle.planner.specs.Asks.{asksBy}
 use Rattle.planner.proofs.Turned.{length-rowOf}
+use Rattle.planner.proofs.Walks.{asked-landed}
 use Rattle.planner.proofs.run.plan_tick.Statement.{statement}
 use Rattle.planner.proofs.run.plan_tick.Tie as tie
 
@@ -56,18 +53,12 @@ returns c =
     let a = c .before .before .before .before .before .before .before .before .before .before .before .before .before .before .args in
     let limits = c .before .before .before .before .before .before .before .before .before .before .before .before .before .before .pre .0 in
     let landed = c .before .before .before .before .before .before .before .before .before .land in
-    let next : landed .result .next ≡ a .d .next = landed-next (a .held .now) (landed .last .0) (a .d) (landed .result) (landed .ensures) in
     let size : shapeOf (a .job .now) .slots ≡ length (landed .last .0) =
     sym (landed .kept .0 ∙ c .before .before .before .before .before .before .before .before .before .before .before .before .before .before .pre .2 ∙ ap (λ (s : Shape). s .slots) (limits .shaped)) in
-    let awaits : getD (drop (a .d .next) (drawsOf (a .job .now))) 0 0 ≡ c .before .before .before .before .before .before .draw-symbol .result =
-    awaited-read (a .job .now) (a .d .next) (rw (limits .shaped) at (c .before .before .before .before .before .before .before .before .before .before .before .before .before .before .pre .5))
-    ∙ sym (c .before .before .before .before .before .before .draw-symbol .ensures
-    ∙ ap (λ (s : Shape). number16 (a .job .now) (draws-at (s .slots) + 2 * landed .result .next)) (limits .shaped)
-    ∙ ap (λ (x : ℕ). number16 (a .job .now) (draws-at (shapeOf (a .job .now) .slots) + 2 * x)) next) in
-    let asks : (h : Beside) → h .rest ≡ drop (a .d .next) (drawsOf (a .job .now))
-    → c .before .before .before .before .asked-of .result ≡ asksBy (a .plan) (jobOf (a .job .now)) (a .order) (view (landed .last .0) h (landed .result)) =
-    λ h remain. c .before .before .before .before .asked-of .ensures h (jobOf (a .job .now)) (c .before .before .before .before .before .before .before .before .before .before .before .before .before .before .pre .1)
-    (remain ∙ ap (λ (x : ℕ). drop x (drawsOf (a .job .now))) (sym next)) (ap (λ (l : List ℕ). getD l 0 0) remain ∙ awaits) in
+    let asks =
+    asked-landed (a .plan) (a .job .now) (a .shape) (a .order) (a .row .now) (a .held .now) (landed .last .0) (a .d) (landed .result) (landed .ensures)
+    (c .before .before .before .before .before .before .draw-symbol .result) (c .before .before .before .before .asked-of .result) (limits .shaped) (c .before .before .before .before .before .before .before .before .before .before .before .before .before .before .pre .5) (c .before .before .before .before .before .before .draw-symbol .ensures) (c .before .before .before .before .before .before .before .before .before .before .before .before .before .before .pre .1)
+    (c .before .before .before .before .asked-of .ensures) in
     let rule : Rule = asking (asksBy (a .plan) (jobOf (a .job .now)) (a .order)) in
     ticks-refused (jobOf (a .job .now)) rule (a .held .now) (landed .last .0) (a .d) (landed .result) (landed .ensures)
     (c .before .before .before .before .asked-of .result) asks (c .before .before .load-number .result) (λ h. c .before .before .load-number .ensures h (jobOf (a .job .now)) size)
@@ -85,18 +76,12 @@ settle-requires c κs =
     let a = c .before .before .before .before .before .before .before .before .before .before .before .before .before .before .before .before .before .before .args in
     let limits = c .before .before .before .before .before .before .before .before .before .before .before .before .before .before .before .before .before .before .pre .0 in
     let landed = c .before .before .before .before .before .before .before .before .before .before .before .before .before .land in
-    let next : landed .result .next ≡ a .d .next = landed-next (a .held .now) (landed .last .0) (a .d) (landed .result) (landed .ensures) in
     let size : shapeOf (a .job .now) .slots ≡ length (landed .last .0) =
     sym (landed .kept .0 ∙ c .before .before .before .before .before .before .before .before .before .before .before .before .before .before .before .before .before .before .pre .2 ∙ ap (λ (s : Shape). s .slots) (limits .shaped)) in
-    let awaits : getD (drop (a .d .next) (drawsOf (a .job .now))) 0 0 ≡ c .before .before .before .before .before .before .before .before .before .before .draw-symbol .result =
-    awaited-read (a .job .now) (a .d .next) (rw (limits .shaped) at (c .before .before .before .before .before .before .before .before .before .before .before .before .before .before .before .before .before .before .pre .5))
-    ∙ sym (c .before .before .before .before .before .before .before .before .before .before .draw-symbol .ensures
-    ∙ ap (λ (s : Shape). number16 (a .job .now) (draws-at (s .slots) + 2 * landed .result .next)) (limits .shaped)
-    ∙ ap (λ (x : ℕ). number16 (a .job .now) (draws-at (shapeOf (a .job .now) .slots) + 2 * x)) next) in
-    let asks : (h : Beside) → h .rest ≡ drop (a .d .next) (drawsOf (a .job .now))
-    → c .before .before .before .before .before .before .before .before .asked-of .result ≡ asksBy (a .plan) (jobOf (a .job .now)) (a .order) (view (landed .last .0) h (landed .result)) =
-    λ h remain. c .before .before .before .before .before .before .before .before .asked-of .ensures h (jobOf (a .job .now)) (c .before .before .before .before .before .before .before .before .before .before .before .before .before .before .before .before .before .before .pre .1)
-    (remain ∙ ap (λ (x : ℕ). drop x (drawsOf (a .job .now))) (sym next)) (ap (λ (l : List ℕ). getD l 0 0) remain ∙ awaits) in
+    let asks =
+    asked-landed (a .plan) (a .job .now) (a .shape) (a .order) (a .row .now) (a .held .now) (landed .last .0) (a .d) (landed .result) (landed .ensures)
+    (c .before .before .before .before .before .before .before .before .before .before .draw-symbol .result) (c .before .before .before .before .before .before .before .before .asked-of .result) (limits .shaped) (c .before .before .before .before .before .before .before .before .before .before .before .before .before .before .before .before .before .before .pre .5) (c .before .before .before .before .before .before .before .before .before .before .draw-symbol .ensures) (c .before .before .before .before .before .before .before .before .before .before .before .before .before .before .before .before .before .before .pre .1)
+    (c .before .before .before .before .before .before .before .before .asked-of .ensures) in
     let rule : Rule = asking (asksBy (a .plan) (jobOf (a .job .now)) (a .order)) in
     let same : length (c .before .before .before .begin .last .0) ≡ a .shape .slots = c .before .before .before .begin .kept .0 ∙ landed .kept .0 ∙ c .before .before .before .before .before .before .before .before .before .before .before .before .before .before .before .before .before .before .pre .2 in
     let few = limits .few-slots in (
@@ -116,24 +101,20 @@ returns-2 c =
     let a = c .before .before .before .before .before .before .before .before .before .before .before .before .before .before .before .before .before .before .before .args in
     let limits = c .before .before .before .before .before .before .before .before .before .before .before .before .before .before .before .before .before .before .before .pre .0 in
     let landed = c .before .before .before .before .before .before .before .before .before .before .before .before .before .before .land in
-    let next : landed .result .next ≡ a .d .next = landed-next (a .held .now) (landed .last .0) (a .d) (landed .result) (landed .ensures) in
     let size : shapeOf (a .job .now) .slots ≡ length (landed .last .0) =
     sym (landed .kept .0 ∙ c .before .before .before .before .before .before .before .before .before .before .before .before .before .before .before .before .before .before .before .pre .2 ∙ ap (λ (s : Shape). s .slots) (limits .shaped)) in
-    let awaits : getD (drop (a .d .next) (drawsOf (a .job .now))) 0 0 ≡ c .before .before .before .before .before .before .before .before .before .before .before .draw-symbol .result =
-    awaited-read (a .job .now) (a .d .next) (rw (limits .shaped) at (c .before .before .before .before .before .before .before .before .before .before .before .before .before .before .before .before .before .before .before .pre .5))
-    ∙ sym (c .before .before .before .before .before .before .before .before .before .before .before .draw-symbol .ensures
-    ∙ ap (λ (s : Shape). number16 (a .job .now) (draws-at (s .slots) + 2 * landed .result .next)) (limits .shaped)
-    ∙ ap (λ (x : ℕ). number16 (a .job .now) (draws-at (shapeOf (a .job .now) .slots) + 2 * x)) next) in
-    let asks : (h : Beside) → h .rest ≡ drop (a .d .next) (drawsOf (a .job .now))
-    → c .before .before .before .before .before .before .before .before .before .asked-of .result ≡ asksBy (a .plan) (jobOf (a .job .now)) (a .order) (view (landed .last .0) h (landed .result)) =
-    λ h remain. c .before .before .before .before .before .before .before .before .before .asked-of .ensures h (jobOf (a .job .now)) (c .before .before .before .before .before .before .before .before .before .before .before .before .before .before .before .before .before .before .before .pre .1)
-    (remain ∙ ap (λ (x : ℕ). drop x (drawsOf (a .job .now))) (sym next)) (ap (λ (l : List ℕ). getD l 0 0) remain ∙ awaits) in
+    let asks =
+    asked-landed (a .plan) (a .job .now) (a .shape) (a .order) (a .row .now) (a .held .now) (landed .last .0) (a .d) (landed .result) (landed .ensures)
+    (c .before .before .before .before .before .before .before .before .before .before .before .draw-symbol .result) (c .before .before .before .before .before .before .before .before .before .asked-of .result) (limits .shaped) (c .before .before .before .before .before .before .before .before .before .before .before .before .before .before .before .before .before .before .before .pre .5) (c .before .before .before .before .before .before .before .before .before .before .before .draw-symbol .ensures) (c .before .before .before .before .before .before .before .before .before .before .before .before .before .before .before .before .before .before .before .pre .1)
+    (c .before .before .before .before .before .before .before .before .before .asked-of .ensures) in
     let rule : Rule = asking (asksBy (a .plan) (jobOf (a .job .now)) (a .order)) in
     ticks-went (jobOf (a .job .now)) rule (a .held .now) (landed .last .0) (a .d) (landed .result) (landed .ensures)
     (c .before .before .before .before .before .before .before .before .before .asked-of .result) asks (c .before .before .before .before .before .before .before .load-number .result) (λ h. c .before .before .before .before .before .before .before .load-number .ensures h (jobOf (a .job .now)) size)
     (c .before .before .before .before .before .before .if1 .left) (c .before .before .before .before .begin .last .0) (c .before .before .before .before .begin .result)
     (λ h. c .before .before .before .before .begin .ensures h (jobOf (a .job .now)) (sym (ap (λ (s : Shape). s .time) (limits .shaped)))) (c .before .before .before .before .before .before .before .before .before .before .before .draw-symbol .result)
-    awaits true (λ h. refl) (c .settle .result) (c .settle .ensures)
+    (landed-awaits (a .held .now) (landed .last .0) (a .d) (landed .result) (landed .ensures) (a .job .now) (a .shape) (c .before .before .before .before .before .before .before .before .before .before .before .draw-symbol .result)
+    (limits .shaped) (c .before .before .before .before .before .before .before .before .before .before .before .before .before .before .before .before .before .before .before .pre .5) (c .before .before .before .before .before .before .before .before .before .before .before .draw-symbol .ensures))
+    true (λ h. refl) (c .settle .result) (c .settle .ensures)
 
 pub plan-tick-spec : {M : Type 1} → statement M
 plan-tick-spec =

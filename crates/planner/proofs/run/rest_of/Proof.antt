@@ -1,10 +1,12 @@
 -- Behind a draw no tick is passed over, behind a wait all up to the end of the load under way.
-use Prim.Native.Nat.{_+_, _-_, _≤_, min}
+use Prim.Native.Nat.{_-_, _≤_, min}
 use native.Mathlib.Omega.{arith}
 use mathlib.Core.Path.{_≡_, ap}
 use borrow.Author.Needs.{needs}
 use Rattle.rules.specs.LoadList.{last-tick}
+use Rattle.display.proofs.Stretches.{rested-none}
 use Rattle.display.specs.Still.{waiting}
+use Rattle.planner.specs.Runs.{Waits}
 use Rattle.planner.proofs.Walks.{waits-none}
 use Rattle.planner.proofs.run.rest_of.Statement.{statement}
 use Rattle.planner.proofs.run.rest_of.Tie as tie
@@ -29,18 +31,8 @@ pass-requires c κs = search needs
 
 returns : tie.Need-returns
 returns c =
-    let d = c .before .before .args .d in
-    let here : d .tick + 0 ≡ d .tick = omega arith in
-    let waits : d .waits + 0 ≡ d .waits = omega arith in
-    let until : d .until - 0 ≡ d .until = omega arith in
-    let early : d .tick ≤ last-tick = c .before .before .pre .0 in
-    record {
-      many = 0;
-      passes = rw (here, waits, until);
-      in-time = omega arith;
-      behind = λ some. absurd (omega arith);
-      still = waits-none d;
-    }
+    let a = c .before .before .args in
+    rested-none (Waits (a .d)) last-tick (a .happening) (a .d) (c .before .before .pre .0) (waits-none (a .d))
 
 returns-2 : tie.Need-returns-2
 returns-2 c =

@@ -1,17 +1,15 @@
-use Rattle.sheet.proofs.Rows.{row-more, row-none, row-full}
-use Rattle.sheet.specs.Row.{row64}
-use Rattle.rules.specs.Basics.{number16}
-use lib.ListN.{set}
-use mathlib.Core.List.{List}
-use mathlib.Core.Path.{_≡_, sym, ap, _∙_}
+-- `starting_slots` meets its contract: slot by slot the row is filled from the front.
 use Prim.Native.Nat.{ℕ, _+_, _*_, _-_, _≤_}
 use native.Mathlib.Omega.{arith}
+use mathlib.Core.List.{List}
+use mathlib.Core.Path.{_≡_, sym, ap, _∙_}
+use lib.ListN.{set}
 use borrow.Author.Needs.{needs}
+use Rattle.rules.specs.Basics.{number16}
+use Rattle.sheet.specs.Row.{row64}
+use Rattle.sheet.proofs.Rows.{row-more, row-none, row-full}
 use Rattle.sheet.proofs.job.starting_slots.Statement.{statement}
 use Rattle.sheet.proofs.job.starting_slots.Tie as tie
-use Rattle.sheet.proofs.job.starting_slots.Reads as reads
-use Rattle.sheet.proofs.job.starting_slots.Lts as lts
-use Rattle.sheet.proofs.job.starting_symbol.Reads as starting-symbol-reads
 
 abbrev Inv-loop : tie.InvT-loop
 Inv-loop job slots row₀ slot₀ row slot = (slot ≤ 64) × (slot ≤ slots) × (row ≡ row64 slot job)
@@ -19,11 +17,9 @@ Inv-loop job slots row₀ slot₀ row slot = (slot ≤ 64) × (slot ≤ slots) �
 abbrev μ-loop : tie.MeasureT-loop
 μ-loop job slots row₀ slot₀ row slot = 64 - slot
 
--- src/job.rt:125:5
 loop-holds : tie.Need-loop-holds Inv-loop μ-loop
 loop-holds c = (omega arith, omega arith, sym (row-none (c .before .args .job .now)))
 
--- src/job.rt:127:13
 returns : tie.Need-returns Inv-loop μ-loop
 returns c =
     let a = c .before .before .before .before .args in
@@ -31,31 +27,24 @@ returns c =
     let same : l .slot ≡ a .slots = omega arith in
     l .inv .2 ∙ ap (λ (k : ℕ). row64 k (a .job .now)) same
 
--- src/job.rt:129:30
 starting-symbol-requires : tie.Need-starting-symbol-requires Inv-loop μ-loop
 starting-symbol-requires c κs = search needs
 
--- src/job.rt:129:13
 cast-row : tie.Need-cast-row Inv-loop μ-loop
 cast-row c = omega arith
 
--- src/job.rt:129:9
 mul-row : tie.Need-mul-row Inv-loop μ-loop
 mul-row c = omega arith
 
--- src/job.rt:129:9
 array-write-row : tie.Need-array-write-row Inv-loop μ-loop
 array-write-row c = search needs
 
--- src/job.rt:130:9
 add-slot : tie.Need-add-slot Inv-loop μ-loop
 add-slot c = omega arith
 
--- src/job.rt:125:5
 loop-less : tie.Need-loop-less Inv-loop μ-loop
 loop-less c = omega arith
 
--- src/job.rt:125:5
 loop-again : tie.Need-loop-again Inv-loop μ-loop
 loop-again c =
     let a = c .before .before .before .before .before .args in
@@ -67,7 +56,6 @@ loop-again c =
           ∙ row-more (l .slot) (a .job .now) (c .before .before .loop-test .taken),
     )
 
--- src/job.rt:120:1
 returns-2 : tie.Need-returns-2 Inv-loop μ-loop
 returns-2 c =
     let a = c .before .before .before .args in

@@ -1,5 +1,4 @@
 -- `worked::check_case::say_ticks` is safe and ends: the loop's own bound keeps each place inside the array. Nothing has to hold from turn to turn.
--- Assumes nothing.
 use Prim.Native.Nat.{_-_}
 use borrow.Author.Needs.{needs}
 use Rattle.worked.proofs.check_case.say_ticks.Statement.{statement}

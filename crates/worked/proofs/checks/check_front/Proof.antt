@@ -1,5 +1,4 @@
 -- `worked::checks::check_front` is safe: the branch shows that the job's end lies inside the room.
--- Assumes nothing.
 use native.Mathlib.Omega.{arith}
 use mathlib.Core.Path.{sym}
 use lib.Seq.{length-take-le}

@@ -1,5 +1,4 @@
 -- `worked::make::put_round` is safe and ends. The loop's invariant: the symbols passed lie in the round, and the room is as long as it was.
--- Assumes nothing.
 use Prim.Native.Nat.{_≤_, _-_}
 use mathlib.Core.Path.{_≡_}
 use lib.ListN.{length}
