@@ -1,6 +1,3 @@
-pub mod Searches
-pub mod Asked
-pub mod Turned
 pub mod Orders
 pub mod Walks
 pub mod Writes

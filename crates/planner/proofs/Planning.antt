@@ -20,10 +20,10 @@ use Rattle.plan_laws.proofs.Keeping.{Done}
 use Rattle.plan_laws.proofs.Plans.{Any, plan-done}
 use Rattle.display.specs.View.{view}
 use Rattle.planner.specs.declared.run.Ran.{Ran}
-use Rattle.planner.specs.Asks.{rowOf}
+use Rattle.choice.specs.Asks.{rowOf}
 use Rattle.planner.specs.Loads.{Lists, Noted, Written, Fitting, loadDraw, loadSlot, loadSymbol}
 use Rattle.planner.specs.Runs.{Limits, Shown, Planned}
-use Rattle.planner.proofs.Turned.{length-rowOf}
+use Rattle.choice.proofs.Turned.{length-rowOf}
 
 -- ---- The refusals
 

@@ -33,8 +33,8 @@ use Rattle.display.proofs.Views.{nearer, under-way}
 use Rattle.display.proofs.Landed.{landed-next, landed-awaits}
 use Rattle.display.proofs.Stretches.{Quiet}
 use Rattle.display.proofs.Going.{Going, going-start, going-over, going-late, going-more, going-refused, going-on}
-use Rattle.planner.specs.declared.ask.Order.{Order}
-use Rattle.planner.specs.Asks.{orderAsks, asksBy, rowOf}
+use Rattle.choice.specs.declared.ask.Order.{Order}
+use Rattle.choice.specs.Asks.{orderAsks, asksBy, rowOf}
 use Rattle.planner.specs.Loads.{Whole, Noted, loadTick, loadDraw, loadSlot, loadSymbol, notedLoad}
 use Rattle.planner.specs.Runs.{Waits}
 

@@ -12,7 +12,7 @@ use Rattle.rules.specs.Refusals.{inTime}
 use Rattle.display.specs.View.{Beside, view}
 use Rattle.display.specs.declared.state.Display.{Display}
 use Rattle.planner.specs.declared.run.Ran.{Ran}
-use Rattle.planner.specs.Asks.{rowOf}
+use Rattle.choice.specs.Asks.{rowOf}
 use Rattle.planner.specs.Loads.{Even, Lists, Noted}
 
 -- A job of this shape, within its limits.

@@ -1,8 +1,8 @@
 // A plan of a job: its refusals in their order, its run, and its list in the lent room.
-use crate::row::row_of;
 use crate::run::Ran;
 use crate::run::run_plan;
 use crate::write::write_list;
+use choice::row_of;
 use rules::Answer;
 use rules::JobReading;
 use rules::Shape;
@@ -12,7 +12,7 @@ ghost use Rattle.rules.specs.declared.JobReading.the-variants.{Taken};
 ghost use Rattle.rules.specs.Job.{drawsOf};
 ghost use Rattle.rules.specs.Display.{refused};
 ghost use Rattle.rules.specs.Refusals.{readJob, jobNumber, planned, answerOf, writtenBy, lent};
-ghost use Rattle.planner.specs.Asks.{rowOf};
+ghost use Rattle.choice.specs.Asks.{rowOf};
 ghost use Rattle.planner.specs.Loads.{Whole};
 ghost use Rattle.planner.specs.Runs.{Given, Planned};
 

@@ -1,12 +1,12 @@
 // The loads that a run has begun, a row to each of their four numbers: the tick, the next draw number, the slot and the symbol.
-use crate::ask::Order;
+use choice::Order;
 use rules::Begun;
 ghost use mathlib.Core.Path.{_≡_};
 ghost use mathlib.Core.List.{List};
 ghost use lib.ListN.{drop};
 ghost use Rattle.rules.specs.Display.{State, Loaded};
 ghost use Rattle.rules.specs.Plans.{earliest};
-ghost use Rattle.planner.specs.Asks.{orderAsks};
+ghost use Rattle.choice.specs.Asks.{orderAsks};
 ghost use Rattle.planner.specs.Loads.{Lists, Even, Whole, notedLoad};
 
 // The load of this number, as conservative works it off, from the draws that missed, the slots and the symbols.

@@ -1,8 +1,8 @@
 // One tick of a plan, and the run of a plan to its end.
-use crate::ask::Order;
-use crate::ask::asked_of;
 use crate::loads::note;
 use crate::loads::order_at;
+use choice::Order;
+use choice::asked_of;
 use display::Display;
 use display::Ticked;
 use display::before_end;
@@ -24,7 +24,7 @@ ghost use Rattle.rules.specs.LoadList.{last-tick};
 ghost use Rattle.rules.specs.Plans.{asking, runPlan, ruleOf};
 ghost use Rattle.display.specs.Tick.{Room, Ticks};
 ghost use Rattle.display.specs.Still.{Rested};
-ghost use Rattle.planner.specs.Asks.{asksBy, rowOf};
+ghost use Rattle.choice.specs.Asks.{asksBy, rowOf};
 ghost use Rattle.planner.specs.Loads.{Whole};
 ghost use Rattle.planner.specs.Runs.{Limits, Waits, Ready, Shown};
 

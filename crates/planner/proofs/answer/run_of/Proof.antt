@@ -4,7 +4,7 @@ use mathlib.Core.Path.{refl, sym, ap, _∙_}
 use lib.ListN.{take}
 use borrow.Author.Needs.{needs}
 use Rattle.rules.specs.Job.{drawsOf}
-use Rattle.planner.specs.Asks.{rowOf}
+use Rattle.choice.specs.Asks.{rowOf}
 use Rattle.planner.proofs.Planning.{limits, row-right, row-size}
 use Rattle.planner.proofs.answer.run_of.Statement.{statement}
 use Rattle.planner.proofs.answer.run_of.Tie as tie

@@ -11,8 +11,8 @@ use Rattle.rules.specs.declared.Shape.{Shape}
 use Rattle.laws.proofs.Symbols.{length-symbols}
 use Rattle.display.proofs.Landed.{landed-awaits, landed-loads, landed-next, landed-room}
 use Rattle.display.proofs.Steps.{ticks-refused, ticks-went, room-begun}
-use Rattle.planner.specs.Asks.{asksBy}
-use Rattle.planner.proofs.Turned.{length-rowOf}
+use Rattle.choice.specs.Asks.{asksBy}
+use Rattle.choice.proofs.Turned.{length-rowOf}
 use Rattle.planner.proofs.Walks.{asked-landed}
 use Rattle.planner.proofs.run.plan_tick.Statement.{statement}
 use Rattle.planner.proofs.run.plan_tick.Tie as tie

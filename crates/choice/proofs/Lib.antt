@@ -1,0 +1,3 @@
+pub mod Searches
+pub mod Asked
+pub mod Turned

@@ -1,0 +1,18 @@
+-- The test of the plan's number is that of the definition.
+use native.Mathlib.Omega.{arith}
+use borrow.Author.Needs.{needs}
+use borrow.Author.Tests.{lt-ltb, le-ltb}
+use Rattle.choice.proofs.ask.look_from.Statement.{statement}
+use Rattle.choice.proofs.ask.look_from.Tie as tie
+
+sub-result : tie.Need-sub-result
+sub-result c = search needs
+
+returns : tie.Need-returns
+returns c = (rw (lt-ltb (c .before .args .plan) 3 (c .if1 .taken)), omega arith)
+
+returns-2 : tie.Need-returns-2
+returns-2 c = (rw (le-ltb (c .before .args .plan) 3 (c .if1 .left)), omega arith)
+
+pub look-from-spec : {M : Type 1} → statement M
+look-from-spec = tie.close (tie.spec sub-result returns returns-2)
