@@ -14,7 +14,7 @@ use Rattle.rules.specs.Basics.{number32}
 use Rattle.rules.specs.Job.{shapeOf, startingOf, drawsOf, jobOf}
 use Rattle.rules.specs.LoadList.{Event, head-size, countOf, eventsIn}
 use Rattle.rules.specs.Display.{Run, refused}
-use Rattle.rules.specs.Refusals.{badList, badJobLength, badJobVersion, badLimits, badJobSize, badSymbols, readJob, readList, unruly, follows, checked, answerOf, ticksOf, slotsOf, lent}
+use Rattle.rules.specs.Refusals.{badList, badJobLength, badJobVersion, badLimits, badJobSize, badSymbols, readJob, readList, unruly, follows, inOrder, checked, answerOf, ticksOf, slotsOf, lent}
 use Rattle.laws.proofs.Cases.{by-test, neither}
 use Rattle.laws.proofs.Symbols.{length-symbols}
 use Rattle.laws.proofs.Jobs.{passed}
@@ -91,9 +91,10 @@ module _ (job list : List ℕ) (ticks slots : ℕ) where
         abbrev events : List Event
         events = eventsIn count (drop head-size list)
 
-        pub answers-order : unruly 0 events < count → checked job list ticks slots ≡ refused 9 (unruly 0 events)
+        -- With room for each draw, the list in its order is what is left to answer.
+        past-room : checked job list ticks slots ≡ inOrder (jobOf job) events
         unfolding checked
-        answers-order h =
+        past-room =
             let same : length (drawsOf job) ≡ shape .draws = many in
             rw (
               taken,
@@ -101,23 +102,13 @@ module _ (job list : List ℕ) (ticks slots : ℕ) where
               le-ltb ticks (length (drawsOf job)) (omega arith),
               le-ltb slots (length (drawsOf job)) (omega arith),
               read .counts,
-              length-eventsIn count (drop head-size list),
-              lt-ltb (unruly 0 events) count h,
             )
 
+        pub answers-order : unruly 0 events < count → checked job list ticks slots ≡ refused 9 (unruly 0 events)
+        answers-order h = past-room ∙ rw (length-eventsIn count (drop head-size list), lt-ltb (unruly 0 events) count h)
+
         pub answers-run : count ≤ unruly 0 events → checked job list ticks slots ≡ follows (jobOf job) events
-        unfolding checked
-        answers-run h =
-            let same : length (drawsOf job) ≡ shape .draws = many in
-            rw (
-              taken,
-              read .right,
-              le-ltb ticks (length (drawsOf job)) (omega arith),
-              le-ltb slots (length (drawsOf job)) (omega arith),
-              read .counts,
-              length-eventsIn count (drop head-size list),
-              le-ltb (unruly 0 events) count h,
-            )
+        answers-run h = past-room ∙ rw (length-eventsIn count (drop head-size list), le-ltb (unruly 0 events) count h)
 
 -- A refused check hands out nothing.
 pub handed-nothing : (run : Run) (number detail : ℕ) (answer : Answer) (ticks slots : List ℕ)

@@ -47,9 +47,9 @@ pub fn load_number(slots: &[u16], d: Display, asked: Begun) -> u32
     0
 }
 
-// The tick of a load that is refused with this number. It leaves no record.
+// The tick of a load that is refused with this number. Nothing begins in it, and the display is as it was.
 pub fn refused_load(d: Display, number: u32) -> Ticked
-    ensures { λ r. ⌜ (r .number ≡ number) × (r .detail ≡ d .loads) ⌝ }
+    ensures { λ r. ⌜ r ≡ record { number = number; detail = d .loads; on_record = record { begun = Begun.NoLoad; happening = Happening.Wait Cause.Nothing }; display = d } ⌝ }
 {
     Ticked {
         number,

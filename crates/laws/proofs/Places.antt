@@ -5,7 +5,7 @@ use native.Mathlib.Numerals.{add-one}
 use mathlib.Core.Path.{_≡_, refl, sym, ap, _∙_}
 use mathlib.Core.Bool.{true, false}
 use mathlib.Core.List.{List, [], _∷_}
-use lib.ListN.{length, getD, take, drop, set, drop-of-length-le}
+use lib.ListN.{length, getD, drop, drop-of-length-le}
 use lib.Seq.{drop-cons}
 use borrow.Author.Tests.{lt-ltb, le-ltb, eq-eqb, ne-eqb}
 use Rattle.rules.specs.Basics.{place, stands}
@@ -29,10 +29,3 @@ found-stands x l r k at size h = lt-ltb (place x l) (length l) (omega arith)
 
 pub missed-stands : (x : ℕ) (l : List ℕ) (r k : ℕ) → r ≡ place x l → length l ≡ k → k ≤ r → stands x l ≡ false
 missed-stands x l r k at size h = le-ltb (place x l) (length l) (omega arith)
-
--- A store among the first k elements, or behind them.
-pub take-set : (k : ℕ) (l : List ℕ) (q x : ℕ) → take k (set l q x) ≡ set (take k l) q x
-take-set zero l q x = refl
-take-set (suc k) [] q x = refl
-take-set (suc k) (y ∷ l) zero x = refl
-take-set (suc k) (y ∷ l) (suc q) x = ap (λ (r : List ℕ). y ∷ r) (take-set k l q x)

@@ -11,6 +11,7 @@ use Rattle.rules.specs.LoadList.{Event, eventsIn, head-size}
 use Rattle.rules.specs.Refusals.{follow}
 use Rattle.rules.specs.declared.Shape.{Shape}
 use Rattle.laws.proofs.Events.{length-eventsIn}
+use Rattle.display.specs.declared.tick.Ticked.{Ticked}
 use Rattle.display.proofs.Landed.{landed-awaits, landed-loads, landed-room}
 use Rattle.display.proofs.Steps.{ticks-refused, ticks-went, room-begun}
 use Rattle.checker.proofs.follow.follow_tick.Statement.{statement}
@@ -43,8 +44,8 @@ returns c =
     sym (landed .kept .0 ∙ c .before .before .before .before .before .before .before .before .before .before .before .before .before .pre .1 ∙ ap (λ (s : Shape). s .slots) (fit .shaped)) in
     ticks-refused (jobOf (a .job .now)) (follow (eventsIn (a .count) (drop head-size (a .list .now)))) (a .held .now) (landed .last .0)
     (a .d) (landed .result) (landed .ensures) (c .before .before .before .before .asked-of .result) (λ h remain. c .before .before .before .before .asked-of .ensures) (c .before .before .load-number .result)
-    (λ h. c .before .before .load-number .ensures h (jobOf (a .job .now)) size) (c .before .if1 .taken) (c .refused-load .result) (c .refused-load .ensures .0)
-    (c .refused-load .ensures .1)
+    (λ h. c .before .before .load-number .ensures h (jobOf (a .job .now)) size) (c .before .if1 .taken) (c .refused-load .result) (ap (λ (t : Ticked). t .number) (c .refused-load .ensures))
+    (ap (λ (t : Ticked). t .detail) (c .refused-load .ensures))
 
 begin-requires : tie.Need-begin-requires
 begin-requires c κs =

@@ -9,6 +9,7 @@ use Rattle.rules.specs.Job.{shapeOf, drawsOf, jobOf}
 use Rattle.rules.specs.Plans.{asking}
 use Rattle.rules.specs.declared.Shape.{Shape}
 use Rattle.laws.proofs.Symbols.{length-symbols}
+use Rattle.display.specs.declared.tick.Ticked.{Ticked}
 use Rattle.display.proofs.Landed.{landed-awaits, landed-loads, landed-next, landed-room}
 use Rattle.display.proofs.Steps.{ticks-refused, ticks-went, room-begun}
 use Rattle.choice.specs.Asks.{asksBy}
@@ -62,7 +63,7 @@ returns c =
     let rule : Rule = asking (asksBy (a .plan) (jobOf (a .job .now)) (a .order)) in
     ticks-refused (jobOf (a .job .now)) rule (a .held .now) (landed .last .0) (a .d) (landed .result) (landed .ensures)
     (c .before .before .before .before .asked-of .result) asks (c .before .before .load-number .result) (λ h. c .before .before .load-number .ensures h (jobOf (a .job .now)) size)
-    (c .before .if1 .taken) (c .refused-load .result) (c .refused-load .ensures .0) (c .refused-load .ensures .1)
+    (c .before .if1 .taken) (c .refused-load .result) (ap (λ (t : Ticked). t .number) (c .refused-load .ensures)) (ap (λ (t : Ticked). t .detail) (c .refused-load .ensures))
 
 begin-requires : tie.Need-begin-requires
 begin-requires c κs =
