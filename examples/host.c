@@ -1,5 +1,6 @@
 /* A small host: it plans a sheet, checks the list before anything is shown, and steps a display tick by tick.
-   Build it with the archive: cc -std=c99 -I include examples/host.c target/staticlib/libhost.a */
+   Build it where the library is installed: cc -std=c99 host.c $(pkg-config --cflags --libs govahrin)
+   or in the source tree: cc -std=c99 -I include examples/host.c target/staticlib/libgovahrin.a */
 #include "govahrin.h"
 #include <stdio.h>
 
@@ -26,7 +27,7 @@ static uint32_t number(const uint8_t *at, unsigned bytes)
 static void report(const char *what, govahrin_answer a)
 {
     if (a.number)
-        printf("%s: refused %u %u\n", what, (unsigned)a.number, (unsigned)a.detail);
+        printf("%s: refused %u %u: %s\n", what, (unsigned)a.number, (unsigned)a.detail, govahrin_words(a.number));
     else
         printf("%s: elapsed %u, waits %u, loads %u\n", what, (unsigned)a.elapsed, (unsigned)a.waits, (unsigned)a.loads);
 }

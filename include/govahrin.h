@@ -1,9 +1,16 @@
 /* Govahrin for C and C++: plan the symbol loads of a bridge display, and check a load list before a display trusts it.
-   Link target/staticlib/libhost.a, which `rt staticlib host` makes, x86-64. This header is the manual.
+   This header is the manual; `man 3 govahrin` has the calls in short.
 
-   A display holds chart symbols in k slots. Any other symbol comes off a slow card and takes F ticks to load into a slot.
-   A job says what is drawn, in which order; a load list says at which tick which symbol goes into which slot. The
+   A display holds chart symbols in k slots. Any other symbol comes off a slow card and takes F ticks to load into a
+   slot. A job says what is drawn, in which order; a load list says at which tick which symbol goes into which slot. The
    display follows the list and never looks at the symbol, so a list that is wrong by one tick draws a wrong symbol.
+
+   LINKING. The archive libgovahrin.a is for x86-64 and needs nothing but memcpy and memset. Where it is installed:
+
+       cc host.c $(pkg-config --cflags --libs govahrin)
+
+   or -lgovahrin. In the source tree `tools/install PREFIX` installs it, and `rt staticlib govahrin` makes it as
+   target/staticlib/libgovahrin.a.
 
    THE JOB. Numbers are big-endian.
 
@@ -24,28 +31,51 @@
        5       2      events m, 0 to 4,096
        7       7m     the events: tick (4 bytes, 0 to 8,388,607, rising strictly), slot (1), symbol (2)
 
-   ONE TICK, while draws remain. First a load begun F ticks ago puts its symbol into its slot. Then, if the next event has
-   this tick, its load begins: what the slot held is gone at once. Then, if some slot holds the next draw's symbol, it is
-   drawn from there; if not, this tick is a wait.
+   ONE TICK, while draws remain. First a load begun F ticks ago puts its symbol into its slot. Then, if the next event
+   has this tick, its load begins: what the slot held is gone at once. Then, if some slot holds the next draw's symbol,
+   it is drawn from there; if not, this tick is a wait.
 
-   AN EXAMPLE. Two slots with symbols 1 and 2, load time 4, draws 1 2 3 1:
+   AN EXAMPLE. Two slots with symbols 1 and 2, load time 4, draws 1 2 3 1. It prints `8 ticks, 4 of them waits`.
 
-       static const uint8_t job[] = {0, 0, 0, 18, 1, 2, 0, 4, 0, 4, 0, 1, 0, 2, 0, 1, 0, 2, 0, 3, 0, 1};
-       uint8_t list[GOVAHRIN_PLAN_ROOM(4)];
-       govahrin_answer a = govahrin_plan(job, sizeof job, GOVAHRIN_CONSERVATIVE, list, sizeof list);
-       if (a.number == 0)
-           printf("%u ticks, %u of them waits\n", (unsigned)a.elapsed, (unsigned)a.waits);   8 ticks, 4 of them waits
+       #include <govahrin.h>
+       #include <stdio.h>
+
+       int main(void)
+       {
+           static const uint8_t job[] = {0, 0, 0, 18, 1, 2, 0, 4, 0, 4, 0, 1, 0, 2, 0, 1, 0, 2, 0, 3, 0, 1};
+           uint8_t list[GOVAHRIN_PLAN_ROOM(4)];
+           govahrin_answer a = govahrin_plan(job, sizeof job, GOVAHRIN_CONSERVATIVE, list, sizeof list);
+           if (a.number) {
+               printf("refused %u %u: %s\n", (unsigned)a.number, (unsigned)a.detail, govahrin_words(a.number));
+               return 1;
+           }
+           printf("%u ticks, %u of them waits\n", (unsigned)a.elapsed, (unsigned)a.waits);
+           return 0;
+       }
 
    examples/host.c is a whole host: it plans, checks, and steps a display tick by tick.
 
-   THREADS. The library has no state, allocates nothing and calls nothing of the host's; any number of threads may call
-   it at once, each with its own lent memory. Memory that a call may write must not overlap memory that it reads or other
-   memory that it may write. A null pointer is fine where its length is 0. */
+   MEMORY. The library has no state, allocates nothing and keeps no pointer. It asks nothing of the bytes that it is
+   lent: any content, any alignment, any length, and a null pointer where the length is 0. Three things it cannot see,
+   and there it trusts its caller:
+   - a length is no more than the memory behind its pointer: the library believes it, and reads or writes that far;
+   - memory that a call may write overlaps nothing else that the call is given;
+   - the stack has room for the call: GOVAHRIN_PLAN_STACK or GOVAHRIN_CHECK_STACK bytes.
+   A govahrin_answer is returned by value and is aligned as uint32_t is.
+
+   THREADS. Any number of threads may call at once, each with its own lent memory. A call blocks on nothing and calls
+   nothing of the host's but memcpy and memset. */
 #ifndef GOVAHRIN_H
 #define GOVAHRIN_H
 
 #include <stddef.h>
 #include <stdint.h>
+
+/* The version of the library and of this header. Until 1.0 the surface changes with the requests. */
+#define GOVAHRIN_VERSION_MAJOR 0
+#define GOVAHRIN_VERSION_MINOR 1
+#define GOVAHRIN_VERSION_PATCH 0
+#define GOVAHRIN_VERSION "0.1.0"
 
 #ifdef __cplusplus
 extern "C" {
@@ -73,14 +103,38 @@ enum {
     GOVAHRIN_PLAN_NUMBER = 6,    /* the plan number is above 3 */
     GOVAHRIN_ROOM = 7,           /* lent room is too short */
     GOVAHRIN_LIST_BYTES = 8,     /* the list has under 7 bytes, a wrong length or version, or more than 4,096 events */
-    GOVAHRIN_EVENT_TICK = 9,     /* an event's tick is over 8,388,607 or not above the one before; detail: first such event */
+    GOVAHRIN_EVENT_TICK = 9,     /* an event's tick is over 8,388,607 or not above the one before; detail: the first */
     GOVAHRIN_EVENT_BUSY = 10,    /* an event begins while a load is under way; detail: the event */
     GOVAHRIN_EVENT_SLOT = 11,    /* an event's slot is k or more; detail: the event */
     GOVAHRIN_EVENT_SYMBOL = 12,  /* an event's symbol is held by a slot, or is 65535; detail: the event */
-    GOVAHRIN_DRAW_NEVER = 13,    /* a draw's symbol is in no slot, none is under way, no event is left; detail: the draw */
+    GOVAHRIN_DRAW_NEVER = 13,    /* a draw's symbol is in no slot, no load under way, no event left; detail: the draw */
     GOVAHRIN_EVENT_LEFT = 14,    /* all draws are done and an event is left; detail: the first left */
     GOVAHRIN_PLAN_TOO_LONG = 15  /* a plan's elapsed would pass 8,388,607; no job within the limits is so long */
 };
+
+/* A refusal's number in words, a line without its end. Where they say "an event" or "a draw", detail is which one. */
+static inline const char *govahrin_words(uint32_t number)
+{
+    static const char *const words[] = {
+        "accepted",
+        "the job has under 10 bytes, or its length is not the count of the bytes after it",
+        "the job's version is not 1",
+        "the job has not 1 to 64 slots, a load time of 1 to 1,000 and 0 to 4,096 draws",
+        "the job's length does not fit its numbers of slots and draws",
+        "a symbol stands in two starting slots, or 65535, the mark of a free slot, is drawn",
+        "there are four plans, 0 to 3",
+        "the lent room is too short",
+        "the list's length, version or number of events is wrong",
+        "an event has a tick over 8,388,607 or not above the one before",
+        "an event begins while a load is under way",
+        "an event names a slot that the display does not have",
+        "an event loads a symbol that a slot holds, or 65535",
+        "a draw would wait for ever: its symbol is in no slot, no load is under way and no event is left",
+        "an event is left when all draws are done",
+        "the plan would take more than 8,388,607 ticks",
+    };
+    return number < sizeof words / sizeof words[0] ? words[number] : "no refusal has this number";
+}
 
 /* The plans. */
 enum {
@@ -105,6 +159,11 @@ enum {
 #define GOVAHRIN_LAST_TICK 8388607
 #define GOVAHRIN_FREE 65535
 
+/* The most stack that a call of the x86-64 archive takes, in bytes: upper bounds, measured by tests/stack_run on the
+   largest inputs. They include some 3,000 bytes for a dynamic loader that looks up memset or memcpy during the call. */
+#define GOVAHRIN_PLAN_STACK 78848
+#define GOVAHRIN_CHECK_STACK 41984
+
 /* Plans a job by one of the four plans.
    job, job_len    the job's bytes; only read
    plan            GOVAHRIN_AGGRESSIVE, GOVAHRIN_CONSERVATIVE, GOVAHRIN_OPT or GOVAHRIN_LRU
@@ -118,8 +177,8 @@ govahrin_answer govahrin_plan(const uint8_t *job, size_t job_len, uint32_t plan,
    list, list_len    the list's bytes; only read
    ticks, ticks_len  lent room of at least GOVAHRIN_TICKS_ROOM(n) bytes
    slots, slots_len  lent room of at least GOVAHRIN_SLOTS_ROOM(n) bytes
-   Accepted: ticks has for each draw its tick, 4 big-endian bytes each, and slots the slot it is drawn from, a byte each;
-   the bytes behind them are as they were. Refusals 1 to 5 and 7 to 14. */
+   Accepted: ticks has for each draw its tick, 4 big-endian bytes each, and slots the slot it is drawn from, a byte
+   each; the bytes behind them are as they were. Refusals 1 to 5 and 7 to 14. */
 govahrin_answer govahrin_check(const uint8_t *job, size_t job_len, const uint8_t *list, size_t list_len,
                                uint8_t *ticks, size_t ticks_len, uint8_t *slots, size_t slots_len);
 

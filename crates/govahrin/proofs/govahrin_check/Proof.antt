@@ -2,9 +2,9 @@
 use native.Mathlib.Omega.{arith}
 use lib.ListN.{length}
 use borrow.Author.Needs.{needs}
-use Rattle.host.proofs.Places.{noted-draws, as-for-C}
-use Rattle.host.proofs.govahrin_check.Statement.{statement}
-use Rattle.host.proofs.govahrin_check.Tie as tie
+use Rattle.govahrin.proofs.Places.{noted-draws, as-for-C}
+use Rattle.govahrin.proofs.govahrin_check.Statement.{statement}
+use Rattle.govahrin.proofs.govahrin_check.Tie as tie
 
 few-places-requires : tie.Need-few-places-requires
 few-places-requires c κs = search needs

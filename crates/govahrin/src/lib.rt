@@ -1,4 +1,4 @@
-// The C surface: plan and check over byte slices and plain numbers, for a host that links the archive libhost.a.
+// The C surface: plan and check over byte slices and plain numbers, for a host that links the archive libgovahrin.a.
 // Here the tick of a draw is four big-endian bytes; all else is as in the crates below. No function asks anything of its caller.
 mod ticks;
 

@@ -4,8 +4,8 @@ use mathlib.Core.List.{[], _∷_}
 use lib.ListN.{length-set}
 use lib.Seq.{sets-eq}
 use borrow.Author.Needs.{needs}
-use Rattle.host.proofs.ticks.put_tick.Statement.{statement}
-use Rattle.host.proofs.ticks.put_tick.Tie as tie
+use Rattle.govahrin.proofs.ticks.put_tick.Statement.{statement}
+use Rattle.govahrin.proofs.ticks.put_tick.Tie as tie
 
 cast-part : tie.Need-cast-part
 cast-part c = search needs

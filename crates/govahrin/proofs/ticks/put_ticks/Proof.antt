@@ -8,9 +8,9 @@ use borrow.Rule.Slice.PartMut.{putMid}
 use Rattle.rules.specs.Basics.{bytes32}
 use Rattle.rules.specs.Refusals.{tickBytes, lent}
 use Rattle.laws.proofs.Parts.{put-back}
-use Rattle.host.proofs.Bytes.{put-length, put-more}
-use Rattle.host.proofs.ticks.put_ticks.Statement.{statement}
-use Rattle.host.proofs.ticks.put_ticks.Tie as tie
+use Rattle.govahrin.proofs.Bytes.{put-length, put-more}
+use Rattle.govahrin.proofs.ticks.put_ticks.Statement.{statement}
+use Rattle.govahrin.proofs.ticks.put_ticks.Tie as tie
 
 abbrev Inv-loop : tie.InvT-loop
 Inv-loop to₀ from count place₀ to place =

@@ -2,9 +2,9 @@
 use mathlib.Core.Path.{sym}
 use lib.Seq.{length-take-le}
 use borrow.Author.Needs.{needs}
-use Rattle.host.proofs.Places.{whole-row}
-use Rattle.host.proofs.check_in.Statement.{statement}
-use Rattle.host.proofs.check_in.Tie as tie
+use Rattle.govahrin.proofs.Places.{whole-row}
+use Rattle.govahrin.proofs.check_in.Statement.{statement}
+use Rattle.govahrin.proofs.check_in.Tie as tie
 
 slice-relend-prefix-check : tie.Need-slice-relend-prefix-check
 slice-relend-prefix-check c = search needs

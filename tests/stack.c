@@ -1,0 +1,159 @@
+/* Measures how much stack a plan or a check uses: paints the memory below the stack pointer, makes a call, and looks how deep
+   the paint is gone. Accepted calls and refusals, on the largest job and lists. The words are `plan` or `check` and a figure;
+   status 1 where more is used. Compile it without optimisation: it reads what a function had, after that function has ended.
+   It calls neither memcpy nor memset, so that a loader which binds late looks them up within the library's calls. */
+#include "govahrin.h"
+#include <stdio.h>
+#include <stdlib.h>
+#include <string.h>
+
+enum { SLOTS = GOVAHRIN_MOST_SLOTS, TIME = GOVAHRIN_MOST_LOAD_TIME, DRAWS = GOVAHRIN_MOST_DRAWS, LAST = DRAWS - 1 };
+enum { PAINTED = 1 << 18 };
+
+static uint8_t job[GOVAHRIN_JOB_SIZE(SLOTS, DRAWS)], list[GOVAHRIN_PLAN_ROOM(DRAWS)], room[GOVAHRIN_PLAN_ROOM(DRAWS)];
+static uint8_t ticks[GOVAHRIN_TICKS_ROOM(DRAWS)], slots[GOVAHRIN_SLOTS_ROOM(DRAWS)];
+static size_t job_len, list_len, room_len, ticks_len;
+static uint8_t *const last_event = list + GOVAHRIN_LIST_SIZE(LAST);
+
+/* The call to measure: one of the plans, or a check. */
+enum { CHECK = 99 };
+static uint32_t called;
+static govahrin_answer answer;
+
+static volatile uint8_t *deepest;
+static volatile uint8_t paint;
+static unsigned long most;
+static int failed;
+
+static __attribute__((noinline)) void paint_below(void)
+{
+    volatile uint8_t area[PAINTED];
+    size_t i;
+    for (i = 0; i < PAINTED; i++) area[i] = paint;
+    deepest = area;
+}
+
+static __attribute__((noinline)) void call(void)
+{
+    if (called == CHECK)
+        answer = govahrin_check(job, job_len, list, list_len, ticks, ticks_len, slots, sizeof slots);
+    else
+        answer = govahrin_plan(job, job_len, called, room, room_len);
+}
+
+/* The bytes below this function's frame that are painted no more. The few of call() itself are counted in. */
+static __attribute__((noinline)) unsigned long used(void)
+{
+    volatile uint8_t *top = (volatile uint8_t *)__builtin_frame_address(0);
+    paint_below();
+    call();
+    while (deepest < top && *deepest == paint) deepest++;
+    return (unsigned long)(top - deepest);
+}
+
+/* Makes the call under two paints, since a call may leave a byte of one paint's value. */
+static void measure(uint32_t which, uint32_t number)
+{
+    unsigned turn;
+    called = which;
+    for (turn = 0; turn < 2; turn++) {
+        unsigned long bytes;
+        paint = turn ? 0x5a : 0xa5;
+        bytes = used();
+        if (most < bytes) most = bytes;
+        if (answer.number == number) continue;
+        printf("a call answered %u where %u was to be measured\n", (unsigned)answer.number, (unsigned)number);
+        failed = 1;
+    }
+}
+
+static void put(uint8_t *at, unsigned bytes, uint32_t number)
+{
+    while (bytes--) at[bytes] = (uint8_t)number, number /= 256;
+}
+
+/* The largest calls; each case then breaks one thing. The slots are free and the draws come round after 65 symbols, so that by
+   lru each draw needs a load of F ticks: its list has an event for each, and the slots come round too. */
+static void restore(void)
+{
+    unsigned i;
+    job_len = sizeof job, list_len = sizeof list, room_len = sizeof room, ticks_len = sizeof ticks;
+    put(job, 4, sizeof job - 4);
+    job[4] = 1, job[5] = SLOTS;
+    put(job + 6, 2, TIME);
+    put(job + 8, 2, DRAWS);
+    for (i = 0; i < SLOTS; i++) put(job + 10 + 2 * i, 2, GOVAHRIN_FREE);
+    for (i = 0; i < DRAWS; i++) put(job + 10 + 2 * SLOTS + 2 * i, 2, i % (SLOTS + 1));
+    put(list, 4, sizeof list - 4);
+    list[4] = 1;
+    put(list + 5, 2, DRAWS);
+    for (i = 0; i < DRAWS; i++) {
+        put(list + 7 + 7 * i, 4, (TIME + 1) * i);
+        list[7 + 7 * i + 4] = (uint8_t)(i % SLOTS);
+        put(list + 7 + 7 * i + 5, 2, i % (SLOTS + 1));
+    }
+}
+
+/* Jobs that both calls refuse. */
+static void measure_jobs(uint32_t which)
+{
+    restore(), job_len--;
+    measure(which, GOVAHRIN_JOB_LENGTH);
+    restore(), job[4] = 2;
+    measure(which, GOVAHRIN_JOB_VERSION);
+    restore(), job[5] = SLOTS + 1;
+    measure(which, GOVAHRIN_JOB_LIMITS);
+    restore(), put(job + 8, 2, LAST);
+    measure(which, GOVAHRIN_JOB_SIZE_WRONG);
+    restore(), put(job + sizeof job - 2, 2, GOVAHRIN_FREE);
+    measure(which, GOVAHRIN_JOB_SYMBOLS);
+}
+
+static void measure_plan(uint32_t which)
+{
+    restore();
+    measure(which, GOVAHRIN_ACCEPTED);
+    measure_jobs(which);
+    restore(), room_len--;
+    measure(which, GOVAHRIN_ROOM);
+}
+
+static void measure_checks(void)
+{
+    const uint32_t before = (TIME + 1) * (LAST - 1);
+    restore();
+    measure(CHECK, GOVAHRIN_ACCEPTED);
+    measure_jobs(CHECK);
+    restore(), ticks_len--;
+    measure(CHECK, GOVAHRIN_ROOM);
+    restore(), list[4] = 2;
+    measure(CHECK, GOVAHRIN_LIST_BYTES);
+    restore(), put(last_event, 4, before);
+    measure(CHECK, GOVAHRIN_EVENT_TICK);
+    restore(), put(last_event, 4, before + 1);
+    measure(CHECK, GOVAHRIN_EVENT_BUSY);
+    restore(), last_event[4] = SLOTS;
+    measure(CHECK, GOVAHRIN_EVENT_SLOT);
+    restore(), put(last_event + 5, 2, GOVAHRIN_FREE);
+    measure(CHECK, GOVAHRIN_EVENT_SYMBOL);
+    restore(), list_len -= 7, put(list, 4, (uint32_t)list_len - 4), put(list + 5, 2, LAST);
+    measure(CHECK, GOVAHRIN_DRAW_NEVER);
+    restore(), job_len -= 2, put(job, 4, (uint32_t)job_len - 4), put(job + 8, 2, LAST);
+    measure(CHECK, GOVAHRIN_EVENT_LEFT);
+}
+
+int main(int count, char **words)
+{
+    uint32_t which;
+    unsigned long figure = count == 3 ? strtoul(words[2], NULL, 10) : 0;
+    if (figure == 0) return 2;
+    if (strcmp(words[1], "check") == 0) {
+        measure_checks();
+    } else {
+        for (which = GOVAHRIN_AGGRESSIVE; which <= GOVAHRIN_LRU; which++) measure_plan(which);
+        restore();
+        measure(GOVAHRIN_LRU + 1, GOVAHRIN_PLAN_NUMBER);
+    }
+    printf("%lu\n", most);
+    return failed || most > figure;
+}
