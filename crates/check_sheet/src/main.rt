@@ -58,20 +58,20 @@ fn print_check(job: &[u8], list: &[u8]) -> bool {
     print_draws(job, &ticks, &slots)
 }
 
-// A job has at most 8,330 bytes and a list at most 28,679.
+// A job has at most 8,330 bytes and a list at most 28,679. One more of each is read, so that a longer one is refused by those bytes.
 fn main() {
     if os::arg_count() != 3 {
         say(STDERR_FILENO, b"write: check_sheet JOB LIST\n");
         return;
     }
-    let mut job = [0u8; 8330];
+    let mut job = [0u8; 8331];
     let job_reading = report::read_argument(1, b"job", &mut job);
-    if !job_reading.whole {
+    if !job_reading.taken {
         return;
     }
-    let mut list = [0u8; 28679];
+    let mut list = [0u8; 28680];
     let list_reading = report::read_argument(2, b"list", &mut list);
-    if !list_reading.whole {
+    if !list_reading.taken {
         return;
     }
     let job_count = job_reading.count;

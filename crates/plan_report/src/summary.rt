@@ -40,5 +40,7 @@ fn print_plans(job: &[u8]) -> bool {
 pub fn print_summary() {
     let mut job = [0u8; 8331];
     let count = io::read_full(STDIN_FILENO, &mut job);
-    print_plans(&job[..count]);
+    if report::is_read(STDIN_FILENO, b"standard input") {
+        print_plans(&job[..count]);
+    }
 }

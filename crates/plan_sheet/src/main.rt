@@ -17,7 +17,7 @@ fn write_list(job: &[u8], plan: u32) {
     }
 }
 
-// A job has at most 8,330 bytes.
+// A job has at most 8,330 bytes. One more is read, so that a longer one is refused by those bytes.
 fn main() {
     let plan = plan_report::plan_argument(1);
     if os::arg_count() != 3 || 3 < plan {
@@ -27,9 +27,9 @@ fn main() {
         );
         return;
     }
-    let mut job = [0u8; 8330];
+    let mut job = [0u8; 8331];
     let reading = report::read_argument(2, b"job", &mut job);
-    if !reading.whole {
+    if !reading.taken {
         return;
     }
     let count = reading.count;

@@ -1,56 +1,50 @@
-// Reading the file that an argument names into a lent buffer that holds the longest file of its format.
-// What goes wrong is said here, in one line on standard error that names the file.
+// Reading what a program is given: the file that an argument names, into a lent buffer. A buffer of one byte more than the longest
+// file of its format is enough: a longer file is judged by those bytes. What cannot be read is said in one line on standard error.
 use crate::line::say;
 use libc::STDERR_FILENO;
 ghost use Rattle.io.specs.Counts.{Counts};
 
-// The bytes now at the front of the buffer, and whether they are all of the file.
+// The bytes now at the front of the buffer, and whether the file could be read.
 pub struct Reading {
-    pub whole: bool,
+    pub taken: bool,
     pub count: usize,
 }
 
-// Whether the descriptor stands at the end of a file that can be read. One more read tells a file that is over from one
-// that is longer than the buffer and from one that cannot be read, which `io::read_full` does not tell apart.
-fn is_over(file: i32, path: &[u8], kind: &[u8]) -> bool {
+fn say_unread(name: &[u8]) {
+    say(STDERR_FILENO, b"cannot read ");
+    os::fail(name);
+}
+
+// Whether what was read of a descriptor is all that there is or as much as was asked for. One more read tells this from a read
+// that fails, which `io::read_full` does not.
+pub fn is_read(file: i32, name: &[u8]) -> bool {
     let mut more = [0u8; 1];
     let got = libc::read(file, &mut more);
     if got < 0 {
-        say(STDERR_FILENO, b"cannot read ");
-        os::fail(path);
-        return false;
+        say_unread(name);
     }
-    if got > 0 {
-        say(STDERR_FILENO, b"cannot read ");
-        say(STDERR_FILENO, path);
-        say(STDERR_FILENO, b": longer than any ");
-        say(STDERR_FILENO, kind);
-        say(STDERR_FILENO, b"\n");
-        return false;
-    }
-    true
+    got >= 0
 }
 
-// Reads the file of this path, and says what is wrong where it is not whole. `kind` names its format in that line.
-fn read_file(path: &[u8], kind: &[u8], buffer: &mut [u8]) -> Reading
+// Reads the file of this path until it ends or the buffer is full, and says what is wrong where that cannot be done.
+fn read_file(path: &[u8], buffer: &mut [u8]) -> Reading
     ensures { λ r. ⌜ Counts (r .count) (now (buffer .exit)) ⌝ }
 {
     let file = os::open_read(path);
     if file < 0 {
-        say(STDERR_FILENO, b"cannot read ");
-        os::fail(path);
+        say_unread(path);
         return Reading {
-            whole: false,
+            taken: false,
             count: 0,
         };
     }
     let count = io::read_full(file, buffer);
-    let whole = is_over(file, path, kind);
+    let taken = is_read(file, path);
     libc::close(file);
-    Reading { whole, count }
+    Reading { taken, count }
 }
 
-// The same for the file that an argument of the program names.
+// The same for the file that an argument of the program names. `kind` says what it should be.
 pub fn read_argument(argument: usize, kind: &[u8], buffer: &mut [u8]) -> Reading
     ensures { λ r. ⌜ Counts (r .count) (now (buffer .exit)) ⌝ }
 {
@@ -60,9 +54,9 @@ pub fn read_argument(argument: usize, kind: &[u8], buffer: &mut [u8]) -> Reading
         say(STDERR_FILENO, b"cannot take the name of the ");
         os::fail(kind);
         return Reading {
-            whole: false,
+            taken: false,
             count: 0,
         };
     }
-    read_file(&path[..length], kind, buffer)
+    read_file(&path[..length], buffer)
 }

@@ -5,6 +5,7 @@ mod line;
 mod words;
 
 pub use file::Reading;
+pub use file::is_read;
 pub use file::read_argument;
 pub use line::say;
 pub use line::say_counts;
