@@ -1,5 +1,5 @@
 /* Times the library and the plain C program on the same jobs in one process, turn about, and stops if they ever answer
-   differently. Writes a line a repeat: what, n, k, F, then the nanoseconds of the library and of the plain program. */
+   differently. Writes a line a repeat: sheet, call, n, k, F, then the nanoseconds of the library and of the plain program. */
 #include "plain.h"
 #include <stdio.h>
 #include <stdlib.h>
@@ -11,6 +11,7 @@ enum { REPEATS = 5, ROOM = 7 + 7 * 4096, SHORTEST = 8000000 };
 struct input {
     uint8_t job[10 + 2 * 64 + 2 * 4096], list[ROOM];
     size_t job_len, list_len;
+    unsigned n, k, f;
 };
 
 struct output {
@@ -21,7 +22,7 @@ struct output {
 static struct input input;
 static struct output ours, plain;
 static const char *const names[] = {"aggressive", "conservative", "opt", "lru", "check"};
-enum { CHECK = 4 };
+enum { AGGRESSIVE = 0, CHECK = 4 };
 
 static void put(uint8_t *at, unsigned bytes, uint32_t number)
 {
@@ -31,14 +32,43 @@ static void put(uint8_t *at, unsigned bytes, uint32_t number)
     }
 }
 
-static void put_head(unsigned k, unsigned f, unsigned n)
+/* A job whose slots start with the symbols 0 to k - 1; its draws are still to be put. */
+static void put_job(unsigned n, unsigned k, unsigned f)
 {
+    unsigned i;
+    input.n = n;
+    input.k = k;
+    input.f = f;
     input.job_len = 10 + 2 * k + 2 * n;
     put(input.job, 4, (uint32_t)input.job_len - 4);
     put(input.job + 4, 1, 1);
     put(input.job + 5, 1, k);
     put(input.job + 6, 2, f);
     put(input.job + 8, 2, n);
+    for (i = 0; i < k; i++) put(input.job + 10 + 2 * i, 2, i);
+}
+
+static void put_draw(unsigned place, unsigned symbol) { put(input.job + 10 + 2 * input.k + 2 * place, 2, symbol); }
+
+static void put_list(unsigned events)
+{
+    input.list_len = 7 + 7 * events;
+    put(input.list, 4, 3 + 7 * events);
+    put(input.list + 4, 1, 1);
+    put(input.list + 5, 2, events);
+}
+
+static void put_event(unsigned place, uint32_t tick, unsigned slot, unsigned symbol)
+{
+    put(input.list + 7 + 7 * place, 4, tick);
+    put(input.list + 11 + 7 * place, 1, slot);
+    put(input.list + 12 + 7 * place, 2, symbol);
+}
+
+/* What the check is given where no other list is made: the list of conservative. */
+static void put_conservative(void)
+{
+    input.list_len = 7 + 7 * plain_plan(input.job, input.job_len, GOVAHRIN_CONSERVATIVE, input.list, ROOM).loads;
 }
 
 static uint32_t dice(uint32_t sides)
@@ -49,32 +79,59 @@ static uint32_t dice(uint32_t sides)
 }
 
 /* A sheet like a chart: twice as many symbols as slots; three draws of four repeat one of the last k. */
-static void make_sheet(unsigned k, unsigned f, unsigned n)
+static void make_chart(unsigned n, unsigned k, unsigned f)
 {
     unsigned i, symbol[4096];
-    put_head(k, f, n);
-    for (i = 0; i < k; i++) put(input.job + 10 + 2 * i, 2, i);
+    put_job(n, k, f);
     for (i = 0; i < n; i++) {
         symbol[i] = i > k && dice(4) ? symbol[i - 1 - dice(k)] : dice(2 * k);
-        put(input.job + 10 + 2 * k + 2 * i, 2, symbol[i]);
+        put_draw(i, symbol[i]);
     }
-    input.list_len = 7 + 7 * plain_plan(input.job, input.job_len, GOVAHRIN_CONSERVATIVE, input.list, ROOM).loads;
+    put_conservative();
+}
+
+/* All draws different, and none of a starting symbol: every draw needs a load, and what goes out never comes up again, so
+   that each search for it goes on to the last draw. */
+static void make_different(unsigned n, unsigned k, unsigned f)
+{
+    unsigned i;
+    put_job(n, k, f);
+    for (i = 0; i < n; i++) put_draw(i, k + i);
+    put_conservative();
+}
+
+/* The worst for aggressive: almost all draws are of the last slot, each other slot is drawn from once at the end, and only
+   the very last draw is missing. So each tick looks for it through all draws that remain and all slots, looks for each
+   slot's next draw nearly as far, and begins no load. */
+static void make_late(unsigned n, unsigned k, unsigned f)
+{
+    unsigned i;
+    put_job(n, k, f);
+    for (i = 0; i < n - k; i++) put_draw(i, k - 1);
+    for (i = 0; i < k - 1; i++) put_draw(n - k + i, i);
+    put_draw(n - 1, k);
+}
+
+/* The worst for the check: n loads, of which only the last is of use, each begun a tick after the one before has ended.
+   Until then the first draw waits; then all draws are of the last slot. So every search goes through all slots. */
+static void make_useless(unsigned n, unsigned k, unsigned f)
+{
+    unsigned i;
+    put_job(n, k, f);
+    put_list(n);
+    for (i = 0; i < n; i++) put_draw(i, k);
+    for (i = 0; i < n - 1; i++) put_event(i, i * (f + 1), 0, k + 1 + i);
+    put_event(n - 1, (n - 1) * (f + 1), k - 1, k);
 }
 
 /* The longest check: every draw waits for one load that begins in the last tick there is. */
 static void make_longest(void)
 {
     unsigned i;
-    put_head(64, 1000, 4096);
-    for (i = 0; i < 64; i++) put(input.job + 10 + 2 * i, 2, i);
-    for (i = 0; i < 4096; i++) put(input.job + 10 + 128 + 2 * i, 2, 999);
-    input.list_len = 14;
-    put(input.list, 4, 10);
-    put(input.list + 4, 1, 1);
-    put(input.list + 5, 2, 1);
-    put(input.list + 7, 4, GOVAHRIN_LAST_TICK);
-    put(input.list + 11, 1, 63);
-    put(input.list + 12, 2, 999);
+    put_job(4096, 64, 1000);
+    for (i = 0; i < 4096; i++) put_draw(i, 999);
+    put_list(1);
+    put_event(0, GOVAHRIN_LAST_TICK, 63, 999);
 }
 
 static void call(int library, int what, struct output *o)
@@ -107,16 +164,17 @@ static double timed(int library, int what, unsigned calls)
     return (nanoseconds() - from) / calls;
 }
 
-static void row(int what, const char *name, unsigned n, unsigned k, unsigned f)
+static void row(const char *sheet, int what)
 {
     double mine = 0, theirs, one;
-    unsigned i, calls;
+    unsigned i, calls, n = input.n, k = input.k, f = input.f;
     memset(&ours, 0, sizeof ours);
     memset(&plain, 0, sizeof plain);
     one = timed(0, what, 1);
     call(1, what, &ours);
     if (memcmp(&ours, &plain, sizeof ours) != 0 || ours.answer.number) {
-        fprintf(stderr, "bench: the library and the plain program answer differently: %s, n %u, k %u, F %u\n", name, n, k, f);
+        fprintf(stderr, "bench: the library and the plain program answer differently: %s, %s, n %u, k %u, F %u\n", sheet,
+                names[what], n, k, f);
         exit(1);
     }
     calls = one > SHORTEST ? 1 : (unsigned)(SHORTEST / (one + 1)) + 1;
@@ -124,31 +182,45 @@ static void row(int what, const char *name, unsigned n, unsigned k, unsigned f)
         if (i % 2) mine = timed(1, what, calls);
         theirs = timed(0, what, calls);
         if (i % 2 == 0) mine = timed(1, what, calls);
-        printf("%s %u %u %u %.0f %.0f\n", name, n, k, f, mine, theirs);
+        printf("%s %s %u %u %u %.0f %.0f\n", sheet, names[what], n, k, f, mine, theirs);
     }
     fflush(stdout);
 }
 
-static void sheet(unsigned n, unsigned k, unsigned f)
+static void chart(unsigned n, unsigned k, unsigned f)
 {
     int what;
-    make_sheet(k, f, n);
-    for (what = 0; what <= CHECK; what++) row(what, names[what], n, k, f);
+    make_chart(n, k, f);
+    for (what = 0; what <= CHECK; what++) row("chart", what);
+}
+
+static void worst(unsigned n, unsigned k, unsigned f)
+{
+    int what;
+    make_different(n, k, f);
+    for (what = 0; what <= CHECK; what++) row("different", what);
+    make_late(n, k, f);
+    row("worst", AGGRESSIVE);
+    make_useless(n, k, f);
+    row("worst", CHECK);
 }
 
 int main(void)
 {
     unsigned i;
     static const unsigned n[] = {256, 512, 1024, 2048, 4096}, k[] = {4, 8, 16, 32, 64}, f[] = {1, 10, 100, 1000};
-    for (i = 0; i < 5; i++) sheet(n[i], 16, 30);
+    for (i = 0; i < 5; i++) chart(n[i], 16, 30);
     for (i = 0; i < 5; i++)
-        if (k[i] != 16) sheet(1024, k[i], 30);
-    for (i = 0; i < 4; i++) sheet(1024, 16, f[i]);
-    sheet(256, 4, 1);
-    sheet(4096, 4, 1000);
-    sheet(4096, 64, 1);
-    sheet(4096, 64, 1000);
+        if (k[i] != 16) chart(1024, k[i], 30);
+    for (i = 0; i < 4; i++) chart(1024, 16, f[i]);
+    chart(256, 4, 1);
+    chart(4096, 4, 1000);
+    chart(4096, 64, 1);
+    chart(4096, 64, 1000);
     make_longest();
-    row(CHECK, "longest", 4096, 64, 1000);
+    row("longest", CHECK);
+    for (i = 0; i < 5; i++) worst(n[i], 64, 1);
+    for (i = 0; i < 4; i++) worst(1024, k[i], 1);
+    worst(1024, 64, 1000);
     return 0;
 }

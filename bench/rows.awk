@@ -1,12 +1,15 @@
-# Makes a row of all repeats of one measurement: what, n, k, F, then library / plain program (median, least, greatest),
-# then the median nanoseconds of the library and of the plain program.
+# Makes a row of all repeats of one measurement: sheet, call, n, k, F, then library / plain program (median, least,
+# greatest), the median nanoseconds of the library and of the plain program, and how many repeats there were. Lines that
+# begin with # tell of the machine and are passed on.
+
+/^#/ { print; next }
 
 {
-    key = $1 " " $2 " " $3 " " $4
+    key = $1 " " $2 " " $3 " " $4 " " $5
     if (!count[key]++) order[++rows] = key
-    ratio[key, count[key]] = $5 / $6
-    ours[key, count[key]] = $5
-    plain[key, count[key]] = $6
+    ratio[key, count[key]] = $6 / $7
+    ours[key, count[key]] = $6
+    plain[key, count[key]] = $7
 }
 
 # Sorts numbers[key, 1..] in place and answers the middle one.
@@ -24,6 +27,6 @@ END {
         key = order[r]
         middle = median(ratio, key)
         printf "%s %.3f %.3f %.3f", key, middle, ratio[key, 1], ratio[key, count[key]]
-        printf " %.0f %.0f\n", median(ours, key), median(plain, key)
+        printf " %.0f %.0f %d\n", median(ours, key), median(plain, key), count[key]
     }
 }
