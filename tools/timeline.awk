@@ -1,84 +1,170 @@
-# Reckons what a timeline shows, from three parts of standard input: `job` and the job's bytes in decimal, `list` and the
-# list's bytes, `run` and the lines of check_sheet. The picture itself is drawn by timeline_svg.awk or timeline_text.awk.
-#   span[1..spans]: what a slot does from a tick until another; wait[1..stretches]: ticks without a draw, by their cause.
+# Reckons what a timeline shows, from what tools/sheet.awk has read; timeline_svg.awk or timeline_text.awk draws it.
+#   Shown are the ticks first to until - 1: the environment's FROM and TO, or all up to the end or the refusal.
+#   span 1 to spans: what a slot does from a tick until another. wait 1 to stretches: ticks without a draw, by their cause:
+#   L, where the awaited symbol is being loaded; O, where another is; N, where nothing is.
 
-$1 == "job" || $1 == "list" || $1 == "run" { part = $1; next }
-part == "job" { for (i = 1; i <= NF; i++) jobByte[jobBytes++] = $i; next }
-part == "list" { for (i = 1; i <= NF; i++) listByte[listBytes++] = $i; next }
-$1 == "accepted" { elapsed = $2; waits = $3; loads = $4; next }
-part == "run" { drawSymbol[$1] = $2; drawTick[$1] = $3; drawSlot[$1] = $4 }
-
-function least(a, b) { return a < b ? a : b }
-function most(a, b) { return a > b ? a : b }
-
-function readSheet(   i, at) {
-    slots = jobByte[5]
-    loadTime = jobByte[6] * 256 + jobByte[7]
-    draws = jobByte[8] * 256 + jobByte[9]
-    for (i = 0; i < slots; i++) held[i] = jobByte[10 + 2 * i] * 256 + jobByte[11 + 2 * i]
-    for (i = 0; i < loads; i++) {
-        at = 7 + 7 * i
-        eventTick[i] = ((listByte[at] * 256 + listByte[at + 1]) * 256 + listByte[at + 2]) * 256 + listByte[at + 3]
-        eventSlot[i] = listByte[at + 4]
-        eventSymbol[i] = listByte[at + 5] * 256 + listByte[at + 6]
-    }
+function stop(line) {
+    print line > "/dev/stderr"
+    exit 2
 }
 
-# kind: held, loading or free. A stretch of no ticks is none.
-function addSpan(slot, from, until, kind, symbol) {
-    until = least(until, elapsed)
-    if (from >= until) return
+function countOf(count, thing) { return count " " thing (count == 1 ? "" : "s") }
+
+# How many events begin, how many ticks the run has, and the tick of a refusal, which is -1 where there is none. Refusal 14
+# comes when the run is over, so its tick is the first that is not run; it has a column of its own.
+function reckonEnd(   afterDraws) {
+    afterDraws = made ? drawTick[made - 1] + 1 : 0
+    begun = refusal == "" || refusal == 13 ? events : detail
+    refusalTick = -1
+    if (refusal == 13) refusalTick = most(afterDraws, events ? eventTick[events - 1] + loadTime : 0)
+    else if (refusal == 14) refusalTick = afterDraws
+    else if (refusal != "") refusalTick = eventTick[detail]
+    columns = refusal == "" ? elapsed + 0 : refusalTick + 1
+    ticks = refusal == 14 ? columns - 1 : columns
+}
+
+function reckonRange(   from, to) {
+    from = ENVIRON["FROM"]
+    to = ENVIRON["TO"]
+    if (from != "" && from + 0 >= ticks)
+        stop("tick " from " is past the end: the run has " countOf(ticks, "tick"))
+    first = from + 0
+    until = to == "" ? columns : least(to + 1, columns)
+    isCut = first > 0 || until < columns
+}
+
+# kind: held, loading or free. A stretch of no ticks is none, and one that is not shown only counts its symbol.
+function addSpan(slot, from, end, kind, symbol) {
+    end = least(end, ticks)
+    if (from >= end) return
+    if (symbol == 65535) kind = "free"
+    else inRun[symbol] = 1
+    if (from >= until || end <= first) return
     spans++
     spanSlot[spans] = slot
     spanFrom[spans] = from
-    spanUntil[spans] = until
-    spanKind[spans] = symbol == 65535 ? "free" : kind
+    spanUntil[spans] = end
+    spanKind[spans] = kind
     spanSymbol[spans] = symbol
+    shows[kind] = 1
+    if (kind != "free") shows[kind, symbol] = 1
 }
 
+# At the end, holds[] is what each slot holds or is being loaded with.
 function reckonSlots(   i, slot, since) {
-    for (slot = 0; slot < slots; slot++) since[slot] = 0
-    for (i = 0; i < loads; i++) {
+    for (slot = 0; slot < slots; slot++) {
+        since[slot] = 0
+        holds[slot] = starting[slot]
+    }
+    for (i = 0; i < begun; i++) {
         slot = eventSlot[i]
-        addSpan(slot, since[slot], eventTick[i], "held", held[slot])
+        addSpan(slot, since[slot], eventTick[i], "held", holds[slot])
         addSpan(slot, eventTick[i], eventTick[i] + loadTime, "loading", eventSymbol[i])
-        held[slot] = eventSymbol[i]
+        holds[slot] = eventSymbol[i]
         since[slot] = eventTick[i] + loadTime
     }
-    for (slot = 0; slot < slots; slot++) addSpan(slot, since[slot], elapsed, "held", held[slot])
+    for (slot = 0; slot < slots; slot++) addSpan(slot, since[slot], ticks, "held", holds[slot])
 }
 
-# cause: own, where the awaited symbol is being loaded; other, where another is; none, where nothing is.
-function addWait(from, until, cause) {
-    if (from >= until) return
+function addWait(from, end, cause, awaited, loading) {
+    if (from >= until || end <= first) return
     stretches++
     waitFrom[stretches] = from
-    waitUntil[stretches] = until
+    waitUntil[stretches] = end
     waitCause[stretches] = cause
+    waitAwaited[stretches] = awaited
+    waitLoading[stretches] = loading
+    waitsOf[cause] += least(end, until) - most(from, first)
 }
 
-# The ticks before each draw and after the one before it, cut where loads begin and end.
-function reckonWaits(   d, tick, until, i, end) {
-    i = 0
-    tick = 0
-    for (d = 0; d < draws; d++) {
-        while (tick < drawTick[d]) {
-            while (i < loads && eventTick[i] + loadTime <= tick) i++
-            if (i == loads || eventTick[i] > tick) {
-                end = i == loads ? drawTick[d] : least(eventTick[i], drawTick[d])
-                addWait(tick, end, "none")
-            } else {
-                end = least(eventTick[i] + loadTime, drawTick[d])
-                addWait(tick, end, eventSymbol[i] == drawSymbol[d] ? "own" : "other")
-            }
-            tick = end
+# The ticks in which a symbol is awaited, cut where loads begin and end. The load at loadAt is the first that may matter.
+function addWaits(tick, end, awaited,   to) {
+    while (tick < end) {
+        while (loadAt < begun && eventTick[loadAt] + loadTime <= tick) loadAt++
+        if (loadAt < begun && eventTick[loadAt] <= tick) {
+            to = least(eventTick[loadAt] + loadTime, end)
+            addWait(tick, to, eventSymbol[loadAt] == awaited ? "L" : "O", awaited, eventSymbol[loadAt])
+        } else {
+            to = loadAt < begun ? least(eventTick[loadAt], end) : end
+            addWait(tick, to, "N", awaited, "")
         }
-        tick = drawTick[d] + 1
+        tick = to
     }
+}
+
+function reckonWaits(   draw, tick) {
+    loadAt = tick = 0
+    for (draw = 0; draw < made; draw++) {
+        addWaits(tick, drawTick[draw], drawn[draw])
+        tick = drawTick[draw] + 1
+    }
+    if (refusal != "" && refusal != 14) addWaits(tick, refusalTick, drawn[made])
+}
+
+# What is shown, in words.
+
+function ticksWords(from, end) { return end - from == 1 ? "tick " from : "ticks " from " to " (end - 1) }
+function shownWords() { return ticksWords(first, least(until, ticks)) }
+
+function spanWords(i,   what) {
+    if (spanKind[i] == "free") what = "free"
+    else what = (spanKind[i] == "held" ? "symbol " : "loading symbol ") symbolWords(spanSymbol[i])
+    return "slot " spanSlot[i] ": " what ", " ticksWords(spanFrom[i], spanUntil[i])
+}
+
+function waitWords(i,   awaited, why) {
+    awaited = "symbol " symbolWords(waitAwaited[i])
+    if (waitCause[i] == "L") why = awaited " is being loaded"
+    else if (waitCause[i] == "O") why = awaited " is awaited, symbol " symbolWords(waitLoading[i]) " is being loaded"
+    else why = awaited " is awaited, nothing is being loaded"
+    return "waits, " ticksWords(waitFrom[i], waitUntil[i]) ": " why
+}
+
+# The waits that are shown: each cause that occurs, and their sum.
+function sumWords(   i, sum, words, letter) {
+    split("L O N", letter, " ")
+    for (i = 1; i <= 3; i++) if (letter[i] in waitsOf) {
+        words = words letter[i] " " waitsOf[letter[i]] ", "
+        sum += waitsOf[letter[i]]
+    }
+    if (!sum) words = "no waits"
+    else words = words "sum " sum
+    return words (isCut ? " in " shownWords() : "")
+}
+
+function runWords() {
+    if (refusal == "") return "elapsed " elapsed ", waits " waits ", loads " loads
+    return "refused at tick " refusalTick " after " made " of " countOf(draws, "draw")
+}
+
+function rangeWords() { return "shown: " shownWords() " of 0 to " (ticks - 1) }
+
+function symbolAndName(symbol) { return "symbol " symbol (symbol in nameOf ? ", " nameOf[symbol] : "") }
+
+# An event of refusal 12 comes when no load is under way, so a slot has what holds[] says.
+function heldWords(symbol,   slot) {
+    if (symbol == 65535) return "loads 65535, the mark of a free slot"
+    for (slot = 0; slot < slots - 1 && holds[slot] != symbol; slot++);
+    return "loads a symbol that slot " slot " holds"
+}
+
+function eventWords(i) {
+    return "event " i " (tick " eventTick[i] ", slot " eventSlot[i] ", " symbolAndName(eventSymbol[i]) ") "
+}
+
+function refusalWords(   what) {
+    if (refusal == 10) what = eventWords(detail) "begins while a load is under way"
+    else if (refusal == 11) what = eventWords(detail) "names a slot that the display does not have"
+    else if (refusal == 12) what = eventWords(detail) heldWords(eventSymbol[detail])
+    else if (refusal == 14) what = eventWords(detail) "is left when all draws are done"
+    else what = "draw " detail " (" symbolAndName(drawn[detail]) ") would wait for ever at tick " refusalTick
+    return "refused " refusal ": " what
 }
 
 END {
     readSheet()
+    reckonEnd()
+    reckonRange()
     reckonSlots()
     reckonWaits()
 }

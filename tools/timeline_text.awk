@@ -1,50 +1,78 @@
 # A timeline in plain text: a column a tick, a row a slot. `3*` is drawn from, `>3` is being loaded, `.` is free. A wait
-# is L where the awaited symbol is being loaded, O where another is, N where nothing is.
+# is L where the awaited symbol is being loaded, O where another is, N where nothing is; `!` is where a list is refused.
 
-function pad(text, width) {
-    while (length(text) < width) text = text " "
-    return text
+function pad(words, width) {
+    while (length(words) < width) words = words " "
+    return words
 }
 
 # Fills cell[slot, tick] and cause[tick] from the stretches; width is that of a column.
-function fill(   i, tick, text) {
+function fill(   i, tick, words) {
     for (i = 1; i <= spans; i++) {
-        text = spanKind[i] == "free" ? "." : spanKind[i] == "loading" ? ">" spanSymbol[i] : spanSymbol[i]
-        for (tick = spanFrom[i]; tick < spanUntil[i]; tick++) cell[spanSlot[i], tick] = text
-        width = most(width, length(text) + 2)
+        words = spanKind[i] == "free" ? "." : spanKind[i] == "loading" ? ">" spanSymbol[i] : spanSymbol[i] ""
+        for (tick = most(first, spanFrom[i]); tick < least(until, spanUntil[i]); tick++) cell[spanSlot[i], tick] = words
+        width = most(width, length(words) + 2)
     }
-    for (i = 0; i < draws; i++) cell[drawSlot[i], drawTick[i]] = drawSymbol[i] "*"
-    for (i = 1; i <= stretches; i++) {
-        text = waitCause[i] == "own" ? "L" : waitCause[i] == "other" ? "O" : "N"
-        for (tick = waitFrom[i]; tick < waitUntil[i]; tick++) cause[tick] = text
-    }
-    width = most(width, length(elapsed "") + 1)
+    for (i = 0; i < made; i++) cell[drawSlot[i], drawTick[i]] = drawn[i] "*"
+    for (i = 1; i <= stretches; i++)
+        for (tick = most(first, waitFrom[i]); tick < least(until, waitUntil[i]); tick++) cause[tick] = waitCause[i]
+    if (refusal != "") cause[refusalTick] = "!"
+    width = most(width, length(columns "") + 1)
 }
 
-function row(name, from, until, what, slot,   tick, line, text) {
+function row(name, from, end, what, slot,   tick, line) {
     line = pad(name, 9)
-    for (tick = from; tick < until; tick++) {
-        text = what == "tick" ? tick : what == "wait" ? cause[tick] : cell[slot, tick]
-        line = line pad(text, width)
-    }
+    for (tick = from; tick < end; tick++)
+        line = line pad(what == "tick" ? tick "" : what == "wait" ? cause[tick] "" : cell[slot, tick] "", width)
     sub(/ +$/, "", line)
     print line
 }
 
-END {
-    if (elapsed > 2000) {
-        print "govahrin: " elapsed " ticks are too many for a text with a column a tick; leave --text out" > "/dev/stderr"
-        exit 2
-    }
-    fill()
-    print title ": elapsed " elapsed ", waits " waits ", loads " loads
+function printBands(   perBand, from, end, slot) {
     perBand = most(1, int((80 - 9) / width))
-    for (from = 0; from < elapsed; from += perBand) {
-        until = least(from + perBand, elapsed)
+    for (from = first; from < until; from += perBand) {
+        end = least(from + perBand, until)
         print ""
-        row("tick", from, until, "tick")
-        for (slot = 0; slot < slots; slot++) row("slot " slot, from, until, "slot", slot)
-        row("wait", from, until, "wait")
+        row("tick", from, end, "tick", 0)
+        for (slot = 0; slot < slots; slot++) row("slot " slot, from, end, "slot", slot)
+        row("wait", from, end, "wait", 0)
     }
-    if (elapsed) print "\n3* drawn, >3 being loaded, . free; wait: L awaited symbol is being loaded, O another is, N nothing is"
+    print pad("", 9) sumWords()
+}
+
+# In characters: the bytes that go on one do not count.
+function wideOf(words) {
+    gsub(/[\200-\277]/, "", words)
+    return length(words)
+}
+
+# The names of the symbols that are shown, on lines of up to 80 characters where names are not longer.
+function printNames(   symbol, line, words) {
+    for (symbol = 0; symbol < 65535; symbol++) {
+        if (!(symbol in nameOf) || !(("held", symbol) in shows || ("loading", symbol) in shows)) continue
+        words = symbol " " nameOf[symbol]
+        if (line == "") line = pad("symbols", 9) words
+        else if (wideOf(line "; " words) < 80) line = line "; " words
+        else {
+            print line ";"
+            line = pad("", 9) words
+        }
+    }
+    if (line != "") print line
+}
+
+END {
+    if (until - first > 2000)
+        stop((until - first) " ticks are too many for a text with a column a tick; leave --text out, " \
+            "or give --from and --to")
+    print ENVIRON["TITLE"] ": " runWords()
+    if (refusal != "") print refusalWords()
+    if (isCut) print rangeWords()
+    if (until > first) {
+        fill()
+        printBands()
+        print "\n3* drawn, >3 being loaded, . free; wait: L awaited symbol is being loaded, O another is, N nothing is" \
+            (refusal == "" ? "" : ", ! refused")
+        printNames()
+    }
 }

@@ -1,0 +1,89 @@
+# Asking the proved programs, and believing only what they said in full: an answer counts when it begins with the word of success or
+# of refusal and is complete. What an empty, half-written or interrupted program leaves behind is never an answer.
+if [ -d "$root/programs" ]; then
+    programs=$root/programs remedy="install Govahrin anew"
+else
+    programs=$root/target/bin remedy="remove it, and it is made anew"
+fi
+
+need_programs() {
+    [ "$programs" = "$root/programs" ] || "$root/tools/make_programs" || { ending=2; exit 2; }
+}
+
+# A program's table of sections is written last: where it lies within the file and ends it, the file is whole. A shell would run what
+# is not a program at all as a script, so this is asked before.
+is_program() { # FILE
+    [ -f "$1" ] || return 1
+    od -An -v -tu1 -N 64 "$1" 2>/dev/null | awk -v size="$(wc -c <"$1")" '
+        { for (i = 1; i <= NF; i++) byte[count++] = $i }
+        function number(at, bytes,   sum) { while (bytes-- > 0) sum = sum * 256 + byte[at + bytes]; return sum }
+        END { exit !(count == 64 && number(0, 4) == 1179403647 && number(40, 8) + number(58, 2) * number(60, 2) == size) }'
+}
+
+# Runs a program; its standard output is left at $scratch/NAME.
+ask() { # NAME PROGRAM [WORDS]
+    asked=$2
+    is_program "$programs/$2" || fail "the program $(shown "$programs/$2") is not whole: $remedy"
+    target=$scratch/$1
+    shift 2
+    why=$({ "$root/tools/machine" run "$programs/$asked" "$@" >"$target"; } 2>&1) || fail "the program $asked ended with status $?${why:+: $why}"
+}
+
+not_in_full() { fail "the program $asked did not answer in full${why:+: $why}"; }
+
+# Sets `verdict` by the lines of an answer: accepted, or refused with its number and detail.
+believe() { # NAME WHAT DRAWS
+    [ -s "$scratch/$1" ] && [ -z "$(tail -c 1 "$scratch/$1")" ] || not_in_full
+    verdict=$(awk -v what="$2" -v draws="$3" -f "$root/tools/believe.awk" "$scratch/$1") || not_in_full
+    set -- $verdict
+    verdict=$1 number=${2-} detail=${3-}
+}
+
+# The number that so many bytes at a place name; nothing where the file is shorter.
+number_at() { # NAME PLACE BYTES
+    od -An -v -tu1 -j "$2" -N "$3" "$scratch/$1" 2>/dev/null |
+        awk -v bytes="$3" '{ for (i = 1; i <= NF; i++) { sum = sum * 256 + $i; count++ } } END { if (count == bytes) print sum }'
+}
+
+# Checks one file of the temporary folder against another; leaves the lines at $scratch/said.
+judge() { # JOB LIST
+    ask said check_sheet "$scratch/$1" "$scratch/$2"
+    believe said check "$(number_at "$1" 8 2)"
+    [ -z "$why" ] || not_in_full
+}
+
+# Plans $scratch/sheet.job; leaves the list at $scratch/sheet.list. A refusal is its line on standard error, and no list.
+plan_by() { # PLAN
+    ask sheet.list plan_sheet "$1" "$scratch/sheet.job"
+    case $why in
+    '') is_list sheet.list || not_in_full ;;
+    'refused '*) [ ! -s "$scratch/sheet.list" ] || not_in_full; refuse_job "$why" ;;
+    *) not_in_full ;;
+    esac
+}
+
+# Is the file as long as its head says?
+is_list() { # NAME
+    events=$(number_at "$1" 5 2)
+    [ -n "$events" ] && [ "$(number_at "$1" 0 4)" -eq $((3 + 7 * events)) ] && [ "$(wc -c <"$scratch/$1")" -eq $((7 + 7 * events)) ]
+}
+
+# The job at $scratch/sheet.job with a list of no events: refused 1 to 5 exactly where the job is.
+judge_job() {
+    printf '\0\0\0\003\001\0\0' >"$scratch/empty.list" 2>/dev/null || fail "cannot write in the temporary folder $(shown "$scratch")"
+    judge sheet.job empty.list
+}
+
+# Says why the job is refused, in the words of the check, and ends. LINE is what another program said of it.
+refuse_job() { # LINE
+    other=$asked
+    judge_job
+    [ "$1" = "$verdict $number $detail" ] && [ "$number" -le 5 ] || fail "the programs $other and check_sheet differ: $1"
+    say_refused said
+}
+
+# Says a refusal and ends. Words that answer a question go to standard output; beside a file's bytes they go to standard error.
+say_refused() { # NAME
+    if [ "$answers" = words ]; then write_out "$1"; else cat "$scratch/$1" >&2; fi
+    refuse
+}
