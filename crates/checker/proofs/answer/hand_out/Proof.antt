@@ -1,10 +1,14 @@
 -- `hand_out` meets its contract: the draws noted are those of the run, and as many are copied.
+use Prim.Native.Nat.{ℕ, _≤_}
 use native.Mathlib.Omega.{arith}
+use mathlib.Core.List.{List}
 use mathlib.Core.Path.{_≡_, sym, _∙_}
-use lib.ListN.{length}
+use lib.ListN.{length, take}
 use borrow.Author.Needs.{needs}
-use Rattle.rules.specs.Job.{drawsOf}
+use Rattle.rules.specs.Job.{startingOf, drawsOf}
+use Rattle.rules.specs.declared.Shape.{Shape}
 use Rattle.sheet.proofs.Rows.{row-starts}
+use Rattle.checker.specs.Follow.{Fit}
 use Rattle.checker.proofs.Copies.{copied-lent}
 use Rattle.checker.proofs.Ends.{draws-read, starting-size}
 use Rattle.checker.proofs.answer.hand_out.Statement.{statement}
@@ -19,12 +23,30 @@ cast-k c = search needs
 array-borrow-prefix-held : tie.Need-array-borrow-prefix-held
 array-borrow-prefix-held c = search needs
 
+-- The slots as they start: a symbol to each slot of the job.
+module _ (p : tie.After-starting-slots) where
+  abbrev at-start : tie.Start
+  at-start = search
+
+  abbrev job : List ℕ
+  job = at-start .args .job .now
+
+  abbrev shape : Shape
+  shape = at-start .args .shape
+
+  fit : Fit job (at-start .args .list .now) shape (at-start .args .count)
+  fit = at-start .pre .fit
+
+  many : length (drawsOf job) ≡ shape .draws
+  many = draws-read job shape (fit .shaped)
+
+  starts : take (shape .slots) (p .starting-slots .result) ≡ startingOf job
+  starts = row-starts job shape (p .starting-slots .result) (fit .shaped) (fit .few-slots) (p .starting-slots .ensures)
+
 slice-aggregate-run-list : tie.Need-slice-aggregate-run-list
 slice-aggregate-run-list c =
-    let a = c .before .before .before .before .before .before .before .args in
-    let fit = c .before .before .before .before .before .before .before .pre .fit in
-    sym (starting-size (a .job .now) (a .shape) (fit .shaped) _
-    (row-starts (a .job .now) (a .shape) (c .before .before .starting-slots .result) (fit .shaped) (fit .few-slots) (c .before .before .starting-slots .ensures)))
+    let p : tie.After-starting-slots = search in
+    sym (starting-size (job p) (shape p) (fit p .shaped) _ (starts p))
 
 slice-aggregate-run-list-2 : tie.Need-slice-aggregate-run-list-2
 slice-aggregate-run-list-2 c = search needs
@@ -34,40 +56,52 @@ slice-aggregate-run-list-3 c = search needs
 
 run-list-requires : tie.Need-run-list-requires
 run-list-requires c κs =
-    let a = c .before .before .before .before .before .before .before .before .before .args in
-    let fit = c .before .before .before .before .before .before .before .before .before .pre .fit in
-    record {
-      fit = fit;
-      starts = row-starts (a .job .now) (a .shape) (c .before .before .before .before .starting-slots .result) (fit .shaped) (fit .few-slots) (c .before .before .before .before .starting-slots .ensures);
-      tick-room = search needs;
-      slot-room = search needs;
-    }
+    let p : tie.After-starting-slots = search in
+    record { fit = fit p; starts = starts p; tick-room = search needs; slot-room = search needs }
+
+-- The run has ended: as many draws are noted as both the own and the lent buffers have room for.
+module _ (p : tie.After-run-list) where
+  abbrev at-slots : tie.After-starting-slots
+  at-slots = search
+
+  abbrev noted : List ℕ
+  noted = p .run-list .last .1 .1 .1 .1 .1 .0
+
+  abbrev noted′ : List ℕ
+  noted′ = p .run-list .last .1 .1 .1 .1 .1 .1 .0
+
+  own-room : (p .run-list .result .drawn ≤ length noted) × (p .run-list .result .drawn ≤ length noted′)
+  own-room =
+      let few = p .run-list .ensures .few in
+      let draws = many at-slots in
+      let most = fit at-slots .few-draws in
+      let long = p .run-list .kept .1 .1 .1 .1 .1 .0 in
+      let long′ = p .run-list .kept .1 .1 .1 .1 .1 .1 .0 in
+      (omega (arith, few, long), omega (arith, few, long′))
+
+  lent-room : (p .run-list .result .drawn ≤ length (at-start at-slots .args .ticks .now))
+      × (p .run-list .result .drawn ≤ length (at-start at-slots .args .slots .now))
+  lent-room =
+      let few = p .run-list .ensures .few in
+      let draws = many at-slots in
+      let pre = at-start at-slots .pre in
+      (omega (arith, few, pre), omega (arith, few, pre))
 
 slice-aggregate-copy-ticks : tie.Need-slice-aggregate-copy-ticks
 slice-aggregate-copy-ticks c = search needs
 
 copy-ticks-requires : tie.Need-copy-ticks-requires
 copy-ticks-requires c κs =
-    let a = c .before .before .before .before .before .before .before .before .before .before .before .before .before .before .before .args in
-    let few = c .before .before .before .before .before .run-list .ensures .few in
-    let long = c .before .before .before .before .before .run-list .kept .1 .1 .1 .1 .1 .0 in
-    let pre = c .before .before .before .before .before .before .before .before .before .before .before .before .before .before .before .pre in
-    let most = pre .fit .few-draws in
-    let many : length (drawsOf (a .job .now)) ≡ a .shape .draws = draws-read (a .job .now) (a .shape) (pre .fit .shaped) in
-    (omega (arith, few, pre), omega (arith, few, long, pre))
+    let p : tie.After-run-list = search in
+    (lent-room p .0, own-room p .0)
 
 slice-aggregate-copy-slots : tie.Need-slice-aggregate-copy-slots
 slice-aggregate-copy-slots c = search needs
 
 copy-slots-requires : tie.Need-copy-slots-requires
 copy-slots-requires c κs =
-    let a = c .before .before .before .before .before .before .before .before .before .before .before .before .before .before .before .before .before .before .before .before .args in
-    let few = c .before .before .before .before .before .before .before .before .before .before .run-list .ensures .few in
-    let long = c .before .before .before .before .before .before .before .before .before .before .run-list .kept .1 .1 .1 .1 .1 .1 .0 in
-    let pre = c .before .before .before .before .before .before .before .before .before .before .before .before .before .before .before .before .before .before .before .before .pre in
-    let most = pre .fit .few-draws in
-    let many : length (drawsOf (a .job .now)) ≡ a .shape .draws = draws-read (a .job .now) (a .shape) (pre .fit .shaped) in
-    (omega (arith, few, pre), omega (arith, few, long, pre))
+    let p : tie.After-run-list = search in
+    (lent-room p .1, own-room p .1)
 
 same-length : tie.Need-same-length
 same-length c = search needs
@@ -75,25 +109,21 @@ same-length c = search needs
 same-length-2 : tie.Need-same-length-2
 same-length-2 c = search needs
 
+abbrev at-run : tie.After-copy-ticks → tie.After-run-list
+at-run p = search
+
 returns : tie.Need-returns
 returns c =
-    let a = c .before .before .before .before .before .before .before .before .before .before .before .before .before .before .before .before .before .before .before .before .before .before .before .before .args in
-    let pre = c .before .before .before .before .before .before .before .before .before .before .before .before .before .before .before .before .before .before .before .before .before .before .before .before .pre in
-    let most = pre .fit .few-draws in
-    let ran = c .before .before .before .before .before .before .before .before .before .before .before .before .before .before .run-list in
-    let shown = ran .ensures in
-    let few = shown .few in
-    let long = ran .kept .1 .1 .1 .1 .1 .0 in
-    let long′ = ran .kept .1 .1 .1 .1 .1 .1 .0 in
-    let many : length (drawsOf (a .job .now)) ≡ a .shape .draws = draws-read (a .job .now) (a .shape) (pre .fit .shaped) in
+    let slots : tie.After-copy-slots = search in
+    let ticks : tie.After-copy-ticks = search in
+    let p = at-run ticks in
+    let a = at-start (at-slots p) .args in
+    let shown = p .run-list .ensures in
+    let drawn = p .run-list .result .drawn in
     record {
       answers = shown .answers;
-      at =
-          c .before .before .before .before .before .before .before .before .copy-ticks .ensures
-          ∙ copied-lent (ran .last .1 .1 .1 .1 .1 .0) (a .ticks .now) _ (ran .result .drawn) (omega (arith, few, long, pre)) (shown .at);
-      from =
-          c .before .before .before .copy-slots .ensures
-          ∙ copied-lent (ran .last .1 .1 .1 .1 .1 .1 .0) (a .slots .now) _ (ran .result .drawn) (omega (arith, few, long′, pre)) (shown .from);
+      at = ticks .copy-ticks .ensures ∙ copied-lent (noted p) (a .ticks .now) _ drawn (own-room p .0) (shown .at);
+      from = slots .copy-slots .ensures ∙ copied-lent (noted′ p) (a .slots .now) _ drawn (own-room p .1) (shown .from);
     }
 
 pub hand-out-spec : {M : Type 1} → statement M

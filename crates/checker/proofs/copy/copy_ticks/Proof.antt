@@ -27,12 +27,24 @@ shared-slice-read-to c = omega arith
 mul-to-2 : tie.Need-mul-to-2 Inv-loop μ-loop
 mul-to-2 c = omega arith
 
+-- The front is copied, so the buffer is as long as it was.
+module _ (p : tie.At-loop Inv-loop μ-loop) where
+  abbrev at-start : tie.Start Inv-loop μ-loop
+  at-start = search
+
+  abbrev from : List ℕ
+  from = at-start .args .from .now
+
+  abbrev to : List ℕ
+  to = at-start .args .to .now
+
+  same : length (p .loop .to) ≡ length to
+  same = ap length (p .loop .inv .1) ∙ copied-length from to (p .loop .place) (omega arith) (omega arith)
+
 slice-write-to : tie.Need-slice-write-to Inv-loop μ-loop
 slice-write-to c =
-    let a = c .before .before .before .args in
-    let l = c .before .before .loop in
-    let same : length (l .to) ≡ length (a .to .now) =
-    ap length (l .inv .1) ∙ copied-length (a .from .now) (a .to .now) (l .place) (omega arith) (omega arith) in
+    let p : tie.At-loop Inv-loop μ-loop = search in
+    let long = same p in
     omega arith
 
 add-place : tie.Need-add-place Inv-loop μ-loop
@@ -43,25 +55,23 @@ loop-less c = omega arith
 
 loop-again : tie.Need-loop-again Inv-loop μ-loop
 loop-again c =
-    let a = c .before .before .before .args in
-    let l = c .before .before .loop in (
+    let p : tie.At-loop Inv-loop μ-loop = search in
+    let place = p .loop .place in (
       omega arith,
-      ap (λ (r : List ℕ). set r (l .place) (getD (a .from .now) (l .place) 0)) (l .inv .1)
-          ∙ copied-more (a .from .now) (a .to .now) (l .place) (omega arith) (omega arith),
+      ap (λ (r : List ℕ). set r place (getD (from p) place 0)) (p .loop .inv .1)
+          ∙ copied-more (from p) (to p) place (omega arith) (omega arith),
     )
 
 same-length : tie.Need-same-length Inv-loop μ-loop
 same-length c =
-    let a = c .before .before .args in
-    let l = c .before .loop in
-    ap length (l .inv .1) ∙ copied-length (a .from .now) (a .to .now) (l .place) (omega arith) (omega arith)
+    let p : tie.At-loop Inv-loop μ-loop = search in
+    same p
 
 returns : tie.Need-returns Inv-loop μ-loop
 returns c =
-    let a = c .before .before .args in
-    let l = c .before .loop in
-    let all : l .place ≡ a .count = omega arith in
-    l .inv .1 ∙ ap (λ (n : ℕ). take n (a .from .now) ++ drop n (a .to .now)) all
+    let p : tie.At-loop Inv-loop μ-loop = search in
+    let all : p .loop .place ≡ at-start p .args .count = omega arith in
+    p .loop .inv .1 ∙ ap (λ (n : ℕ). take n (from p) ++ drop n (to p)) all
 
 pub copy-ticks-spec : {M : Type 1} → statement M
 copy-ticks-spec =

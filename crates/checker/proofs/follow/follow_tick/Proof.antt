@@ -6,14 +6,19 @@ use mathlib.Core.Path.{_≡_, sym, ap, _∙_}
 use lib.Dec.{leb}
 use lib.ListN.{getD, length, drop}
 use borrow.Author.Needs.{needs}
+use Rattle.rules.specs.Display.{land}
 use Rattle.rules.specs.Job.{drawsOf, shapeOf, jobOf}
 use Rattle.rules.specs.LoadList.{Event, eventsIn, head-size}
 use Rattle.rules.specs.Refusals.{follow}
 use Rattle.rules.specs.declared.Shape.{Shape}
 use Rattle.laws.proofs.Events.{length-eventsIn}
+use Rattle.display.specs.Tick.{numberOf}
+use Rattle.display.specs.View.{Beside, view, besideBegun, begunBy}
+use Rattle.display.specs.declared.state.Display.{Display}
 use Rattle.display.specs.declared.tick.Ticked.{Ticked}
 use Rattle.display.proofs.Landed.{landed-awaits, landed-loads, landed-room}
 use Rattle.display.proofs.Steps.{ticks-refused, ticks-went, room-begun}
+use Rattle.checker.specs.Follow.{Fit}
 use Rattle.checker.proofs.follow.follow_tick.Statement.{statement}
 use Rattle.checker.proofs.follow.follow_tick.Tie as tie
 
@@ -35,62 +40,114 @@ refused-load-requires c κs = search needs
 same-length : tie.Need-same-length
 same-length c = search needs
 
+abbrev start-of : tie.After-land → tie.Start
+start-of p = search
+
+-- The load asked for in the landed display has its number: what the refused tick and the one that goes on share.
+module _ (p : tie.After-load-number) where
+  abbrev at-land : tie.After-land
+  at-land = search
+
+  abbrev at-draw-symbol : tie.After-draw-symbol
+  at-draw-symbol = search
+
+  abbrev at-asked-of : tie.After-asked-of
+  at-asked-of = search
+
+  abbrev at-start : tie.Start
+  at-start = start-of at-land
+
+  abbrev job : List ℕ
+  job = at-start .args .job .now
+
+  abbrev events : List Event
+  events = eventsIn (at-start .args .count) (drop head-size (at-start .args .list .now))
+
+  abbrev held : List ℕ
+  held = at-start .args .held .now
+
+  abbrev held₁ : List ℕ
+  held₁ = at-land .land .last .0
+
+  abbrev d : Display
+  d = at-start .args .d
+
+  abbrev l : Display
+  l = at-land .land .result
+
+  fit : Fit job (at-start .args .list .now) (at-start .args .shape) (at-start .args .count)
+  fit = at-start .pre .0
+
+  lands : (h : Beside) → view held₁ h l ≡ land (view held h d)
+  lands = at-land .land .ensures
+
+  same-size : length held₁ ≡ at-start .args .shape .slots
+  same-size = at-land .land .kept .0 ∙ at-start .pre .1
+
+  size : shapeOf job .slots ≡ length held₁
+  size = sym (same-size ∙ ap (λ (s : Shape). s .slots) (fit .shaped))
+
+  numbered : (h : Beside) → p .load-number .result ≡ numberOf (jobOf job) (at-asked-of .asked-of .result) (view held₁ h l)
+  numbered h = p .load-number .ensures h (jobOf job) size
+
 returns : tie.Need-returns
 returns c =
-    let a = c .before .before .before .before .before .before .before .before .before .before .before .before .before .args in
-    let fit = c .before .before .before .before .before .before .before .before .before .before .before .before .before .pre .0 in
-    let landed = c .before .before .before .before .before .before .before .before .land in
-    let size : shapeOf (a .job .now) .slots ≡ length (landed .last .0) =
-    sym (landed .kept .0 ∙ c .before .before .before .before .before .before .before .before .before .before .before .before .before .pre .1 ∙ ap (λ (s : Shape). s .slots) (fit .shaped)) in
-    ticks-refused (jobOf (a .job .now)) (follow (eventsIn (a .count) (drop head-size (a .list .now)))) (a .held .now) (landed .last .0)
-    (a .d) (landed .result) (landed .ensures) (c .before .before .before .before .asked-of .result) (λ h remain. c .before .before .before .before .asked-of .ensures) (c .before .before .load-number .result)
-    (λ h. c .before .before .load-number .ensures h (jobOf (a .job .now)) size) (c .before .if1 .taken) (c .refused-load .result) (ap (λ (t : Ticked). t .number) (c .refused-load .ensures))
-    (ap (λ (t : Ticked). t .detail) (c .refused-load .ensures))
+    let p : tie.After-load-number = search in
+    let some : p .load-number .result ≡ 0 → ⊥ = search in
+    ticks-refused (jobOf (job p)) (follow (events p)) (held p) (held₁ p) (d p) (l p) (lands p) (at-asked-of p .asked-of .result)
+    (λ h remain. at-asked-of p .asked-of .ensures) (p .load-number .result) (numbered p) some (c .refused-load .result)
+    (ap (λ (t : Ticked). t .number) (c .refused-load .ensures)) (ap (λ (t : Ticked). t .detail) (c .refused-load .ensures))
 
 begin-requires : tie.Need-begin-requires
 begin-requires c κs =
-    let same : c .before .before .before .before .before .before .before .before .land .result .loads ≡ c .before .before .before .before .before .before .before .before .before .before .before .before .before .args .d .loads =
-    landed-loads (c .before .before .before .before .before .before .before .before .before .before .before .before .before .args .held .now) (c .before .before .before .before .before .before .before .before .land .last .0) (c .before .before .before .before .before .before .before .before .before .before .before .before .before .args .d) (c .before .before .before .before .before .before .before .before .land .result) (c .before .before .before .before .before .before .before .before .land .ensures) in
-    let few = c .before .before .before .before .before .before .before .before .before .before .before .before .before .pre .3 in
-    (c .before .before .before .before .before .before .before .before .before .before .before .before .before .pre .0 .some-time, omega arith)
+    let p : tie.After-load-number = search in
+    let same : l p .loads ≡ d p .loads = landed-loads (held p) (held₁ p) (d p) (l p) (lands p) in
+    let few = at-start p .pre .3 in
+    (fit p .some-time, omega arith)
+
+-- The load is begun.
+module _ (p : tie.After-begin) where
+  abbrev at-number : tie.After-load-number
+  at-number = search
+
+  none : at-number .load-number .result ≡ 0
+  none = search
+
+  begins : (h : Beside)
+      → view (p .begin .last .0) (besideBegun (l at-number) (at-asked-of at-number .asked-of .result) h) (p .begin .result)
+      ≡ begunBy (jobOf (job at-number)) (at-asked-of at-number .asked-of .result) (view (held₁ at-number) h (l at-number))
+  begins h = p .begin .ensures h (jobOf (job at-number)) (sym (ap (λ (s : Shape). s .time) (fit at-number .shaped)))
 
 settle-requires : tie.Need-settle-requires
 settle-requires c κs =
-    let a = c .before .before .before .before .before .before .before .before .before .before .before .before .before .before .before .before .before .before .args in
-    let fit = c .before .before .before .before .before .before .before .before .before .before .before .before .before .before .before .before .before .before .pre .0 in
-    let landed = c .before .before .before .before .before .before .before .before .before .before .before .before .before .land in
-    let size : shapeOf (a .job .now) .slots ≡ length (landed .last .0) =
-    sym (landed .kept .0 ∙ c .before .before .before .before .before .before .before .before .before .before .before .before .before .before .before .before .before .before .pre .1 ∙ ap (λ (s : Shape). s .slots) (fit .shaped)) in
-    let same : length (c .before .before .before .before .begin .last .0) ≡ a .shape .slots = c .before .before .before .before .begin .kept .0 ∙ landed .kept .0 ∙ c .before .before .before .before .before .before .before .before .before .before .before .before .before .before .before .before .before .before .pre .1 in
-    let few = fit .few-slots in (
+    let b : tie.After-begin = search in
+    let p = at-number b in
+    let same : length (b .begin .last .0) ≡ at-start p .args .shape .slots = b .begin .kept .0 ∙ same-size p in
+    let few = fit p .few-slots in (
       omega arith,
-      room-begun (jobOf (a .job .now)) (follow (eventsIn (a .count) (drop head-size (a .list .now)))) (a .held .now) (landed .last .0)
-          (a .d) (landed .result) (landed .ensures) (c .before .before .before .before .before .before .before .before .before .asked-of .result) (λ h remain. c .before .before .before .before .before .before .before .before .before .asked-of .ensures) (c .before .before .before .before .before .before .before .load-number .result)
-          (λ h. c .before .before .before .before .before .before .before .load-number .ensures h (jobOf (a .job .now)) size) (c .before .before .before .before .before .before .if1 .left) (c .before .before .before .before .begin .last .0) (c .before .before .before .before .begin .result)
-          (λ h. c .before .before .before .before .begin .ensures h (jobOf (a .job .now)) (sym (ap (λ (s : Shape). s .time) (fit .shaped))))
-          (landed-room (a .held .now) (landed .last .0) (a .d) (landed .result) (landed .ensures) (c .before .before .before .before .before .before .before .before .before .before .before .before .before .before .before .before .before .before .pre .2)),
+      room-begun (jobOf (job p)) (follow (events p)) (held p) (held₁ p) (d p) (l p) (lands p) (at-asked-of p .asked-of .result)
+          (λ h remain. at-asked-of p .asked-of .ensures) (p .load-number .result) (numbered p) (none b) (b .begin .last .0)
+          (b .begin .result) (begins b) (landed-room (held p) (held₁ p) (d p) (l p) (lands p) (at-start p .pre .2)),
     )
 
 same-length-2 : tie.Need-same-length-2
-same-length-2 c = c .before .before .before .before .before .begin .kept .0 ∙ c .before .before .before .before .before .before .before .before .before .before .before .before .before .before .land .kept .0
+same-length-2 c =
+    let b : tie.After-begin = search in
+    b .begin .kept .0 ∙ at-land (at-number b) .land .kept .0
 
 returns-2 : tie.Need-returns-2
 returns-2 c =
-    let a = c .before .before .before .before .before .before .before .before .before .before .before .before .before .before .before .before .before .before .before .args in
-    let fit = c .before .before .before .before .before .before .before .before .before .before .before .before .before .before .before .before .before .before .before .pre .0 in
-    let landed = c .before .before .before .before .before .before .before .before .before .before .before .before .before .before .land in
-    let events : List Event = eventsIn (a .count) (drop head-size (a .list .now)) in
-    let size : shapeOf (a .job .now) .slots ≡ length (landed .last .0) =
-    sym (landed .kept .0 ∙ c .before .before .before .before .before .before .before .before .before .before .before .before .before .before .before .before .before .before .before .pre .1 ∙ ap (λ (s : Shape). s .slots) (fit .shaped)) in
-    let awaits : getD (drop (a .d .next) (drawsOf (a .job .now))) 0 0 ≡ c .before .before .before .before .before .before .before .before .before .before .before .draw-symbol .result =
-    landed-awaits (a .held .now) (landed .last .0) (a .d) (landed .result) (landed .ensures) (a .job .now) (a .shape) (c .before .before .before .before .before .before .before .before .before .before .before .draw-symbol .result)
-    (fit .shaped) (c .before .before .before .before .before .before .before .before .before .before .before .before .before .before .before .before .before .before .before .pre .4) (c .before .before .before .before .before .before .before .before .before .before .before .draw-symbol .ensures) in
-    ticks-went (jobOf (a .job .now)) (follow events) (a .held .now) (landed .last .0) (a .d) (landed .result) (landed .ensures)
-    (c .before .before .before .before .before .before .before .before .before .before .asked-of .result) (λ h remain. c .before .before .before .before .before .before .before .before .before .before .asked-of .ensures) (c .before .before .before .before .before .before .before .before .load-number .result)
-    (λ h. c .before .before .before .before .before .before .before .before .load-number .ensures h (jobOf (a .job .now)) size) (c .before .before .before .before .before .before .before .if1 .left) (c .before .before .before .before .before .begin .last .0) (c .before .before .before .before .before .begin .result)
-    (λ h. c .before .before .before .before .before .begin .ensures h (jobOf (a .job .now)) (sym (ap (λ (s : Shape). s .time) (fit .shaped)))) (c .before .before .before .before .before .before .before .before .before .before .before .draw-symbol .result)
-    awaits (leb (a .count) (landed .result .loads))
-    (λ h. ap (λ (n : ℕ). leb n (landed .result .loads)) (length-eventsIn (a .count) (drop head-size (a .list .now)))) (c .settle .result)
+    let b : tie.After-begin = search in
+    let p = at-number b in
+    let a = at-start p .args in
+    let symbol = at-draw-symbol p .draw-symbol .result in
+    let awaits : getD (drop (d p .next) (drawsOf (job p))) 0 0 ≡ symbol =
+    landed-awaits (held p) (held₁ p) (d p) (l p) (lands p) (job p) (a .shape) symbol (fit p .shaped) (at-start p .pre .4)
+    (at-draw-symbol p .draw-symbol .ensures) in
+    ticks-went (jobOf (job p)) (follow (events p)) (held p) (held₁ p) (d p) (l p) (lands p) (at-asked-of p .asked-of .result)
+    (λ h remain. at-asked-of p .asked-of .ensures) (p .load-number .result) (numbered p) (none b) (b .begin .last .0) (b .begin .result)
+    (begins b) symbol awaits (leb (a .count) (l p .loads))
+    (λ h. ap (λ (n : ℕ). leb n (l p .loads)) (length-eventsIn (a .count) (drop head-size (a .list .now)))) (c .settle .result)
     (c .settle .ensures)
 
 pub follow-tick-spec : {M : Type 1} → statement M

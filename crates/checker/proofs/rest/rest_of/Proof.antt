@@ -29,20 +29,27 @@ pass-requires c κs = search needs
 
 returns : tie.Need-returns
 returns c =
-    let a = c .before .before .before .args in
-    rested-none _ (a .limit) (a .happening) (a .d) (c .before .before .before .pre .1) (waits-none _ (a .d))
+    let s : tie.Start = search in
+    let a = s .args in
+    rested-none _ (a .limit) (a .happening) (a .d) (s .pre .1) (waits-none _ (a .d))
 
 returns-2 : tie.Need-returns-2
 returns-2 c =
-    let a = c .before .before .before .before .before .before .before .args in
-    let fewer : c .before .smaller .result ≡ min (a .limit - a .d .tick) (c .before .before .still-ticks .result) = c .before .smaller .ensures in
-    let early : a .d .tick ≤ a .limit = c .before .before .before .before .before .before .before .pre .1 in
+    let s : tie.Start = search in
+    let still : tie.After-still-ticks = search in
+    let fewer : tie.After-smaller = search in
+    let a = s .args in
+    let m = still .still-ticks .result in
+    let n = fewer .smaller .result in
+    let least : n ≡ min (a .limit - a .d .tick) m = fewer .smaller .ensures in
+    let early : a .d .tick ≤ a .limit = s .pre .1 in
+    let waits : tie.After-enum-told2 = search in
     record {
-      many = c .before .smaller .result;
+      many = n;
       passes = c .pass .ensures;
       in-time = omega arith;
-      behind = λ some. ap waiting (c .before .before .before .before .enum-told2 .given .1);
-      still = waits-fewer _ (a .d) (c .before .before .still-ticks .result) (c .before .smaller .result) (omega arith) (c .before .before .still-ticks .ensures);
+      behind = λ some. ap waiting (waits .enum-told2 .given .1);
+      still = waits-fewer _ (a .d) m n (omega arith) (still .still-ticks .ensures);
     }
 
 pub rest-of-spec : {M : Type 1} → statement M

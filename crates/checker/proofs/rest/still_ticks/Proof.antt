@@ -1,10 +1,11 @@
 -- `still_ticks` meets its contract: no event comes up, no load ends, and a wait with no load under way has an event to come.
 use Prim.Native.Nat.{_+_, _-_, min}
 use native.Mathlib.Omega.{arith}
+use mathlib.Core.List.{List}
 use mathlib.Core.Path.{_≡_}
 use lib.ListN.{length, drop}
 use borrow.Author.Needs.{needs}
-use Rattle.rules.specs.LoadList.{eventsIn, head-size}
+use Rattle.rules.specs.LoadList.{Event, eventsIn, head-size}
 use Rattle.laws.proofs.Events.{length-eventsIn, due-none}
 use Rattle.checker.proofs.rest.still_ticks.Statement.{statement}
 use Rattle.checker.proofs.rest.still_ticks.Tie as tie
@@ -12,13 +13,22 @@ use Rattle.checker.proofs.rest.still_ticks.Tie as tie
 before-end-requires : tie.Need-before-end-requires
 before-end-requires c κs = search needs
 
+-- There are as many events as the list counts.
+module _ (s : tie.Start) where
+  abbrev events : List Event
+  events = eventsIn (s .args .count) (drop head-size (s .args .list .now))
+
+  size : length events ≡ s .args .count
+  size = length-eventsIn (s .args .count) (drop head-size (s .args .list .now))
+
 returns : tie.Need-returns
 returns c =
-    let a = c .before .before .before .before .args in
-    let size : length (eventsIn (a .count) (drop head-size (a .list .now))) ≡ a .count = length-eventsIn (a .count) (drop head-size (a .list .now)) in
-    let end : c .before-end .result ≡ a .d .until - 1 = c .before-end .ensures in
+    let s : tie.Start = search in
+    let d = s .args .d in
+    let all = size s in
+    let end : c .before-end .result ≡ d .until - 1 = c .before-end .ensures in
     record {
-      none-due = λ j less. due-none (eventsIn (a .count) (drop head-size (a .list .now))) (a .d .loads) (a .d .tick + j) (omega arith);
+      none-due = λ j less. due-none (events s) (d .loads) (d .tick + j) (omega arith);
       before-end = λ ends. omega arith;
       event-left = λ some idle. absurd (omega arith);
     }
@@ -28,11 +38,12 @@ ticks-ahead-requires c κs = search needs
 
 returns-2 : tie.Need-returns-2
 returns-2 c =
-    let a = c .before .before .before .before .before .before .args in
-    let size : length (eventsIn (a .count) (drop head-size (a .list .now))) ≡ a .count = length-eventsIn (a .count) (drop head-size (a .list .now)) in
+    let s : tie.Start = search in
+    let ahead : tie.After-ticks-ahead = search in
+    let all = size s in
     record {
-      none-due = c .before .before .ticks-ahead .ensures;
-      before-end = λ ends. c .if2 .taken;
+      none-due = ahead .ticks-ahead .ensures;
+      before-end = λ ends. search;
       event-left = λ some idle. omega arith;
     }
 
@@ -44,13 +55,15 @@ smaller-requires c κs = search needs
 
 returns-3 : tie.Need-returns-3
 returns-3 c =
-    let a = c .before .before .before .before .before .before .before .before .args in
-    let size : length (eventsIn (a .count) (drop head-size (a .list .now))) ≡ a .count = length-eventsIn (a .count) (drop head-size (a .list .now)) in
-    let end : c .before .before-end2 .result ≡ a .d .until - 1 = c .before .before-end2 .ensures in
-    let fewer : c .smaller .result ≡ min (c .before .before .before .before .ticks-ahead .result) (c .before .before-end2 .result) = c .smaller .ensures in
-    let under-way : a .d .until ≡ 0 → ⊥ = c .before .before .if2 .left in
+    let s : tie.Start = search in
+    let ahead : tie.After-ticks-ahead = search in
+    let end : tie.After-before-end2 = search in
+    let d = s .args .d in
+    let ends : end .before-end2 .result ≡ d .until - 1 = end .before-end2 .ensures in
+    let fewer : c .smaller .result ≡ min (ahead .ticks-ahead .result) (end .before-end2 .result) = c .smaller .ensures in
+    let under-way : d .until ≡ 0 → ⊥ = search in
     record {
-      none-due = λ j less. c .before .before .before .before .ticks-ahead .ensures j (omega arith);
+      none-due = λ j less. ahead .ticks-ahead .ensures j (omega arith);
       before-end = λ ends. omega arith;
       event-left = λ some idle. absurd (under-way idle);
     }

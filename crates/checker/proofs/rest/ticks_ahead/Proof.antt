@@ -27,12 +27,15 @@ sub-result c = search needs
 
 returns-2 : tie.Need-returns-2
 returns-2 c =
-    let a = c .before .before .before .before .before .before .args in
-    let read = c .before .before .reading .given in
+    let s : tie.Start = search in
+    let p : tie.After-reading = search in
+    let e : tie.After-event-of = search in
+    let a = s .args in
+    let read = p .reading .given in
     λ j less.
     ap (λ (l : List Event). due l (a .tick + j))
-    (event-read (a .count) (a .loads) (a .list .now) (c .before .before .before .before .before .before .pre .1) (read .0 .0) (read .0 .1 .0) (read .0 .1 .1 .0)
-    (sym (c .before .before .before .before .event-of .ensures) ∙ read .1))
+    (event-read (a .count) (a .loads) (a .list .now) (s .pre .1) (read .0 .0) (read .0 .1 .0) (read .0 .1 .1 .0)
+    (sym (e .event-of .ensures) ∙ read .1))
     ∙ due-later (read .0 .0) (read .0 .1 .0) (read .0 .1 .1 .0) (a .tick + j) _ (λ now. omega arith)
 
 returns-3 : tie.Need-returns-3

@@ -8,10 +8,14 @@ refusal-requires : tie.Need-refusal-requires
 refusal-requires c κs = search needs
 
 returns : tie.Need-returns
-returns c = finished-early (c .before .before .before .args .count) (c .before .before .before .args .d) (c .refusal .result) (c .before .if1 .taken) (c .refusal .ensures)
+returns c =
+    let s : tie.Start = search in
+    finished-early (s .args .count) (s .args .d) (c .refusal .result) (search) (c .refusal .ensures)
 
 returns-2 : tie.Need-returns-2
-returns-2 c = finished-whole (c .before .before .args .count) (c .before .before .args .d) (c .if1 .left)
+returns-2 c =
+    let s : tie.Start = search in
+    finished-whole (s .args .count) (s .args .d) search
 
 pub finish-spec : {M : Type 1} → statement M
 finish-spec = tie.close (tie.spec refusal-requires returns returns-2)

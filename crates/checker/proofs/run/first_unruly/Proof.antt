@@ -1,10 +1,11 @@
 -- `first_unruly` meets its contract: at each turn the events passed and the first unruly one of those left make up the answer.
-use Prim.Native.Nat.{suc, _+_, _-_, _≤_}
+use Prim.Native.Nat.{ℕ, suc, _+_, _-_, _≤_, _<_}
 use native.Mathlib.Omega.{arith}
 use mathlib.Core.List.{List, _∷_}
 use mathlib.Core.Path.{_≡_, sym, ap, _∙_}
 use lib.ListN.{length, drop}
 use borrow.Author.Needs.{needs}
+use Rattle.rules.specs.declared.EventReading.the-variants.{Short}
 use Rattle.rules.specs.LoadList.{Event, event, head-size, eventsIn}
 use Rattle.rules.specs.Refusals.{unruly}
 use Rattle.laws.proofs.Events.{length-eventsIn, event-read, never-short, unruly-over, unruly-low, unruly-further, unruly-none}
@@ -33,39 +34,70 @@ enum-told c = search needs
 
 returns : tie.Need-returns Inv-loop μ-loop
 returns c =
-    let a = c .before .before .before .before .before .before .args in
-    absurd
-    (never-short (a .count) (c .before .before .before .before .loop .index) (a .list .now) (c .before .before .before .loop-test .taken)
-    (c .before .before .before .before .before .before .pre)
-    (sym (c .before .before .event-of .ensures) ∙ c .enum-told .given .1))
+    let s : tie.Start Inv-loop μ-loop = search in
+    let p : tie.At-loop Inv-loop μ-loop = search in
+    let e : tie.After-event-of Inv-loop μ-loop = search in
+    let turn : p .loop .index < s .args .count = search in
+    let short : e .event-of .result ≡ Short = search in
+    absurd (never-short (s .args .count) (p .loop .index) (s .args .list .now) turn (s .pre) (sym (e .event-of .ensures) ∙ short))
+
+-- The event of this turn, and what the loop has kept up to it.
+module _ (p : tie.After-reading Inv-loop μ-loop) where
+  abbrev at-loop : tie.At-loop Inv-loop μ-loop
+  at-loop = search
+
+  abbrev at-start : tie.Start Inv-loop μ-loop
+  at-start = search
+
+  abbrev at-event : tie.After-event-of Inv-loop μ-loop
+  at-event = search
+
+  abbrev events : List Event
+  events = eventsIn (at-start .args .count) (drop head-size (at-start .args .list .now))
+
+  abbrev index : ℕ
+  index = at-loop .loop .index
+
+  abbrev least : ℕ
+  least = at-loop .loop .least
+
+  abbrev tick : ℕ
+  tick = p .reading .given .0 .0
+
+  abbrev slot : ℕ
+  slot = p .reading .given .0 .1 .0
+
+  abbrev symbol : ℕ
+  symbol = p .reading .given .0 .1 .1 .0
+
+  turn : index < at-start .args .count
+  turn = search
+
+  here : drop index events ≡ event tick slot symbol ∷ drop (index + 1) events
+  here =
+      event-read (at-start .args .count) index (at-start .args .list .now) turn tick slot symbol
+      (sym (at-event .event-of .ensures) ∙ p .reading .given .1)
+
+  whole : unruly 0 events ≡ index + unruly least (drop index events)
+  whole = at-loop .loop .inv .1
 
 returns-2 : tie.Need-returns-2 Inv-loop μ-loop
 returns-2 c =
-    let a = c .before .before .before .before .before .before .before .before .args in
-    let l = c .before .before .before .before .before .before .loop in
-    let read = c .before .before .reading .given in
-    let events : List Event = eventsIn (a .count) (drop head-size (a .list .now)) in
-    let here : drop (l .index) events ≡ event (read .0 .0) (read .0 .1 .0) (read .0 .1 .1 .0) ∷ drop (l .index + 1) events =
-    event-read (a .count) (l .index) (a .list .now) (c .before .before .before .before .before .loop-test .taken) (read .0 .0) (read .0 .1 .0) (read .0 .1 .1 .0)
-    (sym (c .before .before .before .before .event-of .ensures) ∙ read .1) in
-    let whole : unruly 0 events ≡ l .index + unruly (l .least) (drop (l .index) events) = l .inv .1 in
-    let stops : unruly (l .least) (drop (l .index) events) ≡ 0 =
-    ap (unruly (l .least)) here ∙ unruly-over (l .least) (read .0 .0) (read .0 .1 .0) (read .0 .1 .1 .0) _ (c .if1 .taken) in
+    let p : tie.After-reading Inv-loop μ-loop = search in
+    let over : 8388607 < tick p = search in
+    let all = whole p in
+    let stops : unruly (least p) (drop (index p) (events p)) ≡ 0 =
+    ap (unruly (least p)) (here p) ∙ unruly-over (least p) (tick p) (slot p) (symbol p) _ over in
     omega arith
 
 returns-3 : tie.Need-returns-3 Inv-loop μ-loop
 returns-3 c =
-    let a = c .before .before .before .before .before .before .before .before .before .args in
-    let l = c .before .before .before .before .before .before .before .loop in
-    let read = c .before .before .before .reading .given in
-    let events : List Event = eventsIn (a .count) (drop head-size (a .list .now)) in
-    let here : drop (l .index) events ≡ event (read .0 .0) (read .0 .1 .0) (read .0 .1 .1 .0) ∷ drop (l .index + 1) events =
-    event-read (a .count) (l .index) (a .list .now) (c .before .before .before .before .before .before .loop-test .taken) (read .0 .0) (read .0 .1 .0) (read .0 .1 .1 .0)
-    (sym (c .before .before .before .before .before .event-of .ensures) ∙ read .1) in
-    let whole : unruly 0 events ≡ l .index + unruly (l .least) (drop (l .index) events) = l .inv .1 in
-    let stops : unruly (l .least) (drop (l .index) events) ≡ 0 =
-    ap (unruly (l .least)) here
-    ∙ unruly-low (l .least) (read .0 .0) (read .0 .1 .0) (read .0 .1 .1 .0) _ (c .before .if1 .left) (c .if2 .taken) in
+    let p : tie.After-reading Inv-loop μ-loop = search in
+    let fits : tick p ≤ 8388607 = search in
+    let low : tick p < least p = search in
+    let all = whole p in
+    let stops : unruly (least p) (drop (index p) (events p)) ≡ 0 =
+    ap (unruly (least p)) (here p) ∙ unruly-low (least p) (tick p) (slot p) (symbol p) _ fits low in
     omega arith
 
 add-least : tie.Need-add-least Inv-loop μ-loop
@@ -79,23 +111,21 @@ loop-less c = omega arith
 
 loop-again : tie.Need-loop-again Inv-loop μ-loop
 loop-again c =
-    let a = c .before .before .before .before .before .before .before .before .before .args in
-    let l = c .before .before .before .before .before .before .before .loop in
-    let read = c .before .before .before .reading .given in
-    let events : List Event = eventsIn (a .count) (drop head-size (a .list .now)) in
-    let here : drop (l .index) events ≡ event (read .0 .0) (read .0 .1 .0) (read .0 .1 .1 .0) ∷ drop (l .index + 1) events =
-    event-read (a .count) (l .index) (a .list .now) (c .before .before .before .before .before .before .loop-test .taken) (read .0 .0) (read .0 .1 .0) (read .0 .1 .1 .0)
-    (sym (c .before .before .before .before .before .event-of .ensures) ∙ read .1) in
-    let whole : unruly 0 events ≡ l .index + unruly (l .least) (drop (l .index) events) = l .inv .1 in
-    let goes : unruly (l .least) (drop (l .index) events) ≡ suc (unruly (read .0 .0 + 1) (drop (l .index + 1) events)) =
-    ap (unruly (l .least)) here
-    ∙ unruly-further (l .least) (read .0 .0) (read .0 .1 .0) (read .0 .1 .1 .0) _ (c .before .if1 .left) (c .if2 .left) in
+    let p : tie.After-reading Inv-loop μ-loop = search in
+    let fits : tick p ≤ 8388607 = search in
+    let late : least p ≤ tick p = search in
+    let all = whole p in
+    let in-turn = turn p in
+    let goes : unruly (least p) (drop (index p) (events p)) ≡ suc (unruly (tick p + 1) (drop (index p + 1) (events p))) =
+    ap (unruly (least p)) (here p) ∙ unruly-further (least p) (tick p) (slot p) (symbol p) _ fits late in
     (omega arith, omega arith)
 
 returns-4 : tie.Need-returns-4 Inv-loop μ-loop
 returns-4 c =
-    let a = c .before .before .before .args in
-    let l = c .before .loop in
+    let s : tie.Start Inv-loop μ-loop = search in
+    let p : tie.At-loop Inv-loop μ-loop = search in
+    let a = s .args in
+    let l = p .loop in
     let events : List Event = eventsIn (a .count) (drop head-size (a .list .now)) in
     let size : length events ≡ a .count = length-eventsIn (a .count) (drop head-size (a .list .now)) in
     let none : unruly (l .least) (drop (l .index) events) ≡ 0 = unruly-none (l .least) (l .index) events (omega arith) in

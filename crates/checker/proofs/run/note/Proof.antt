@@ -25,7 +25,9 @@ same-length-2 : tie.Need-same-length-2
 same-length-2 c = search needs
 
 returns : tie.Need-returns
-returns c = (simp (c .before .happening .given .1), simp (c .before .happening .given .1))
+returns c =
+    let h : tie.After-happening = search in
+    (simp (h .happening .given .1), simp (h .happening .given .1))
 
 returns-2 : tie.Need-returns-2
 returns-2 c = search needs

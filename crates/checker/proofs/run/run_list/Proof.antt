@@ -1,15 +1,18 @@
 -- `run_list` meets its contract: what the loop keeps is `Walking`, and each way out has its answer.
-use Prim.Native.Nat.{_+_, _-_, _≤_, _<_}
+use Prim.Native.Nat.{ℕ, _+_, _-_, _≤_, _<_}
 use native.Mathlib.Omega.{arith}
 use mathlib.Core.Path.{_≡_, refl, sym, ap, _∙_}
+use mathlib.Core.List.{List}
 use lib.ListN.{length, drop}
 use borrow.Author.Needs.{needs}
 use Rattle.rules.specs.Job.{shapeOf, drawsOf, jobOf}
-use Rattle.rules.specs.LoadList.{eventsIn, head-size}
+use Rattle.rules.specs.LoadList.{Event, eventsIn, head-size}
+use Rattle.rules.specs.Refusals.{patience}
 use Rattle.rules.specs.declared.Shape.{Shape}
 use Rattle.laws.proofs.Events.{length-eventsIn}
 use Rattle.display.specs.View.{onward, Beside}
 use Rattle.display.specs.declared.state.Display.{Display}
+use Rattle.checker.specs.Follow.{Fit}
 use Rattle.checker.proofs.Ends.{draws-read, starting-size, limit-read, shown-out, shown-up, shown-refused, walking-room, first, walking-first}
 use Rattle.checker.proofs.Walks.{Walking, walked-on, noted-length}
 use Rattle.checker.proofs.run.run_list.Statement.{statement}
@@ -43,140 +46,206 @@ start-requires c κs = search needs
 
 loop-holds : tie.Need-loop-holds Inv-loop μ-loop
 loop-holds c =
-    let a = c .before .before .before .before .before .before .before .before .args in (
+    let s : tie.Start Inv-loop μ-loop = search in
+    let a = s .args in (
       refl,
       refl,
       refl,
       first (drawsOf (a .job .now)),
-      walking-first (a .job .now) (eventsIn (a .count) (drop head-size (a .list .now))) (a .held .now) (c .start .result) (a .ticks .now) (a .slots .now) (c .before .before .before .before .before .before .before .before .pre .starts) (c .start .ensures),
+      walking-first (a .job .now) (eventsIn (a .count) (drop head-size (a .list .now))) (a .held .now) (c .start .result) (a .ticks .now)
+          (a .slots .now) (s .pre .starts) (c .start .ensures),
     )
+
+-- A turn of the loop: the job and the list that it goes along, and what the loop has kept.
+module _ (p : tie.At-loop Inv-loop μ-loop) where
+  abbrev at-start : tie.Start Inv-loop μ-loop
+  at-start = search
+
+  abbrev job : List ℕ
+  job = at-start .args .job .now
+
+  abbrev shape : Shape
+  shape = at-start .args .shape
+
+  abbrev events : List Event
+  events = eventsIn (at-start .args .count) (drop head-size (at-start .args .list .now))
+
+  abbrev limit : ℕ
+  limit = 8388608 + shape .time + shape .draws
+
+  fit : Fit job (at-start .args .list .now) shape (at-start .args .count)
+  fit = at-start .pre .fit
+
+  many : length (drawsOf job) ≡ shape .draws
+  many = draws-read job shape (fit .shaped)
+
+  whole : limit ≡ patience (jobOf job)
+  whole = limit-read job shape (fit .shaped)
+
+  walking : Walking (jobOf job) events (p .loop .held) (p .loop .d) (p .loop .ticks) (p .loop .slots) (p .loop .inv .3)
+  walking = p .loop .inv .4
+
+  tick-room : length (p .loop .ticks) ≡ 4096
+  tick-room = p .loop .inv .1 ∙ at-start .pre .tick-room
+
+  slot-room : length (p .loop .slots) ≡ 4096
+  slot-room = p .loop .inv .2 ∙ at-start .pre .slot-room
 
 finish-requires : tie.Need-finish-requires Inv-loop μ-loop
 finish-requires c κs = search needs
 
 same-length : tie.Need-same-length Inv-loop μ-loop
-same-length c = c .before .before .before .loop .inv .0
+same-length c = search needs
 
 same-length-2 : tie.Need-same-length-2 Inv-loop μ-loop
-same-length-2 c = c .before .before .before .loop .inv .1
+same-length-2 c = search needs
 
 same-length-3 : tie.Need-same-length-3 Inv-loop μ-loop
-same-length-3 c = c .before .before .before .loop .inv .2
+same-length-3 c = search needs
 
 returns : tie.Need-returns Inv-loop μ-loop
 returns c =
-    let a = c .before .before .before .before .before .before .before .before .before .before .before .before .args in
-    let l = c .before .before .before .loop in
-    let many : length (drawsOf (a .job .now)) ≡ a .shape .draws = draws-read (a .job .now) (a .shape) (c .before .before .before .before .before .before .before .before .before .before .before .before .pre .fit .shaped) in
-    shown-out (jobOf (a .job .now)) (eventsIn (a .count) (drop head-size (a .list .now))) (l .held) (l .d) (l .ticks) (l .slots) (l .inv .3) (l .inv .4) (a .count) (c .finish .result)
-    (omega arith) (length-eventsIn _ _) (c .finish .ensures)
+    let p : tie.At-loop Inv-loop μ-loop = search in
+    let over : shape p .draws ≤ p .loop .d .next = search in
+    let draws = many p in
+    shown-out (jobOf (job p)) (events p) _ _ _ _ _ (walking p) (at-start p .args .count) (c .finish .result) (omega arith)
+    (length-eventsIn _ _) (c .finish .ensures)
 
 finish-requires-2 : tie.Need-finish-requires-2 Inv-loop μ-loop
 finish-requires-2 c κs = search needs
 
 same-length-4 : tie.Need-same-length-4 Inv-loop μ-loop
-same-length-4 c = c .before .before .before .before .loop .inv .0
+same-length-4 c = search needs
 
 same-length-5 : tie.Need-same-length-5 Inv-loop μ-loop
-same-length-5 c = c .before .before .before .before .loop .inv .1
+same-length-5 c = search needs
 
 same-length-6 : tie.Need-same-length-6 Inv-loop μ-loop
-same-length-6 c = c .before .before .before .before .loop .inv .2
+same-length-6 c = search needs
 
 returns-2 : tie.Need-returns-2 Inv-loop μ-loop
 returns-2 c =
-    let a = c .before .before .before .before .before .before .before .before .before .before .before .before .before .args in
-    let l = c .before .before .before .before .loop in
-    let whole = limit-read (a .job .now) (a .shape) (c .before .before .before .before .before .before .before .before .before .before .before .before .before .pre .fit .shaped) in
-    shown-up (jobOf (a .job .now)) (eventsIn (a .count) (drop head-size (a .list .now))) (l .held) (l .d) (l .ticks) (l .slots) (l .inv .3) (l .inv .4) (a .count) (c .finish2 .result)
-    (rw whole at (c .before .if2 .taken)) (length-eventsIn _ _) (c .finish2 .ensures)
+    let p : tie.At-loop Inv-loop μ-loop = search in
+    let late : limit p ≤ p .loop .d .tick = search in
+    shown-up (jobOf (job p)) (events p) _ _ _ _ _ (walking p) (at-start p .args .count) (c .finish2 .result) (rw (whole p) at late)
+    (length-eventsIn _ _) (c .finish2 .ensures)
 
 follow-tick-requires : tie.Need-follow-tick-requires Inv-loop μ-loop
 follow-tick-requires c κs =
-    let a = c .before .before .before .before .before .before .before .before .before .before .before .before .before .args in
-    let l = c .before .before .before .before .loop in
-    let fit = c .before .before .before .before .before .before .before .before .before .before .before .before .before .pre .fit in
-    let many : length (drawsOf (a .job .now)) ≡ a .shape .draws = draws-read (a .job .now) (a .shape) (fit .shaped) in
-    let whole = limit-read (a .job .now) (a .shape) (fit .shaped) in
-    let time : shapeOf (a .job .now) .time ≡ a .shape .time = sym (ap (λ (s : Shape). s .time) (fit .shaped)) in
-    let short : a .shape .time < 65536 = search needs in
-    let few = fit .few-draws in
-    let roomy = walking-room (jobOf (a .job .now)) (eventsIn (a .count) (drop head-size (a .list .now))) (l .held) (l .d) (l .ticks) (l .slots) (l .inv .3) (l .inv .4) (omega arith) (omega arith)
-    (rw whole at (c .before .if2 .left)) in
-    (fit, l .inv .0 ∙ starting-size (a .job .now) (a .shape) (fit .shaped) (a .held .now) (c .before .before .before .before .before .before .before .before .before .before .before .before .before .pre .starts), roomy .0, roomy .1, c .before .before .if1 .left)
+    let p : tie.At-loop Inv-loop μ-loop = search in
+    let draws = many p in
+    let time : shapeOf (job p) .time ≡ shape p .time = sym (ap (λ (s : Shape). s .time) (fit p .shaped)) in
+    let short : shape p .time < 65536 = search needs in
+    let few = fit p .few-draws in
+    let early : p .loop .d .tick < limit p = search in
+    let roomy = walking-room (jobOf (job p)) (events p) _ _ _ _ _ (walking p) (omega arith) (omega arith) (rw (whole p) at early) in (
+      fit p,
+      p .loop .inv .0 ∙ starting-size (job p) (shape p) (fit p .shaped) _ (at-start p .pre .starts),
+      roomy .0,
+      roomy .1,
+      search,
+    )
+
+-- A tick that a turn makes: a draw remains, and the run is in time.
+module _ (p : tie.After-follow-tick Inv-loop μ-loop) where
+  abbrev at-loop : tie.At-loop Inv-loop μ-loop
+  at-loop = search
+
+  remains : at-loop .loop .d .next < shape at-loop .draws
+  remains = search
+
+  within : at-loop .loop .d .next < length (drawsOf (job at-loop))
+  within = let draws = many at-loop in let more = remains in omega arith
+
+  soon : at-loop .loop .d .tick < limit at-loop
+  soon = search
+
+  early : at-loop .loop .d .tick < patience (jobOf (job at-loop))
+  early = rw (whole at-loop) at soon
+
+  room : (at-loop .loop .d .next < length (at-loop .loop .ticks)) × (at-loop .loop .d .next < length (at-loop .loop .slots))
+  room =
+      let more = remains in
+      let few = fit at-loop .few-draws in
+      let ticks = tick-room at-loop in
+      let slots = slot-room at-loop in
+      (omega arith, omega arith)
 
 refusal-requires : tie.Need-refusal-requires Inv-loop μ-loop
 refusal-requires c κs = search needs
 
 same-length-7 : tie.Need-same-length-7 Inv-loop μ-loop
-same-length-7 c = c .before .before .before .before .before .follow-tick .kept .1 .1 .1 .1 .0 ∙ c .before .before .before .before .before .before .before .before .before .before .loop .inv .0
+same-length-7 c =
+    let t : tie.After-follow-tick Inv-loop μ-loop = search in
+    t .follow-tick .kept .1 .1 .1 .1 .0 ∙ at-loop t .loop .inv .0
 
 same-length-8 : tie.Need-same-length-8 Inv-loop μ-loop
-same-length-8 c = c .before .before .before .before .before .before .before .before .before .before .loop .inv .1
+same-length-8 c = search needs
 
 same-length-9 : tie.Need-same-length-9 Inv-loop μ-loop
-same-length-9 c = c .before .before .before .before .before .before .before .before .before .before .loop .inv .2
+same-length-9 c = search needs
 
 returns-3 : tie.Need-returns-3 Inv-loop μ-loop
 returns-3 c =
-    let a = c .before .before .before .before .before .before .before .before .before .before .before .before .before .before .before .before .before .before .before .args in
-    let l = c .before .before .before .before .before .before .before .before .before .before .loop in
-    let fit = c .before .before .before .before .before .before .before .before .before .before .before .before .before .before .before .before .before .before .before .pre .fit in
-    let many : length (drawsOf (a .job .now)) ≡ a .shape .draws = draws-read (a .job .now) (a .shape) (fit .shaped) in
-    let whole = limit-read (a .job .now) (a .shape) (fit .shaped) in
-    shown-refused (jobOf (a .job .now)) (eventsIn (a .count) (drop head-size (a .list .now))) (l .held) (l .d) (l .ticks) (l .slots) (l .inv .3) (l .inv .4) (omega arith)
-    (rw whole at (c .before .before .before .before .before .before .before .if2 .left)) (c .before .before .before .before .before .follow-tick .last .1 .1 .1 .1 .0) (c .before .before .before .before .before .follow-tick .result) (c .refusal .result)
-    (c .before .before .before .before .before .follow-tick .ensures) (c .before .if3 .taken) (c .refusal .ensures)
+    let t : tie.After-follow-tick Inv-loop μ-loop = search in
+    let some : t .follow-tick .result .number ≡ 0 → ⊥ = search in
+    shown-refused (jobOf (job (at-loop t))) (events (at-loop t)) _ _ _ _ _ (walking (at-loop t)) (within t) (early t) _
+    (t .follow-tick .result) (c .refusal .result) (t .follow-tick .ensures) some (c .refusal .ensures)
 
 note-requires : tie.Need-note-requires Inv-loop μ-loop
 note-requires c κs =
-    let a = c .before .before .before .before .before .before .before .before .before .before .before .before .before .before .before .before .before .before .before .before .before .args in
-    let l = c .before .before .before .before .before .before .before .before .before .before .before .before .loop in
-    let few : l .d .next < a .shape .draws = c .before .before .before .before .before .before .before .before .before .before .if1 .left in
-    let most = c .before .before .before .before .before .before .before .before .before .before .before .before .before .before .before .before .before .before .before .before .before .pre .fit .few-draws in
-    let ticks′ : length (l .ticks) ≡ 4096 = l .inv .1 ∙ c .before .before .before .before .before .before .before .before .before .before .before .before .before .before .before .before .before .before .before .before .before .pre .tick-room in
-    let slots′ : length (l .slots) ≡ 4096 = l .inv .2 ∙ c .before .before .before .before .before .before .before .before .before .before .before .before .before .before .before .before .before .before .before .before .before .pre .slot-room in
-    (omega arith, omega arith)
+    let t : tie.After-follow-tick Inv-loop μ-loop = search in
+    room t
+
+-- The tick is noted: it was not refused, so the display went on by one tick.
+module _ (p : tie.After-note Inv-loop μ-loop) where
+  abbrev at-tick : tie.After-follow-tick Inv-loop μ-loop
+  at-tick = search
+
+  unrefused : at-tick .follow-tick .result .number ≡ 0
+  unrefused = search
+
+  ticked : at-tick .follow-tick .result .display .tick ≡ at-loop at-tick .loop .d .tick + 1
+  ticked = at-tick .follow-tick .ensures .counts unrefused .tick
+
+  waited : at-tick .follow-tick .result .display .waits ≤ at-loop at-tick .loop .d .waits + 1
+  waited = at-tick .follow-tick .ensures .counts unrefused .waits
 
 rest-of-requires : tie.Need-rest-of-requires Inv-loop μ-loop
 rest-of-requires c κs =
-    let a = c .before .before .before .before .before .before .before .before .before .before .before .before .before .before .before .before .before .before .before .before .before .before .before .before .before .before .before .args in
-    let l = c .before .before .before .before .before .before .before .before .before .before .before .before .before .before .before .before .before .before .loop in
-    let went = c .before .before .before .before .before .before .before .before .before .before .before .before .before .follow-tick .ensures .counts (c .before .before .before .before .before .before .before .before .before .if3 .left) in
-    let one-more : c .before .before .before .before .before .before .before .before .before .before .before .before .before .follow-tick .result .display .tick ≡ l .d .tick + 1 = went .tick in
-    let waits′ : c .before .before .before .before .before .before .before .before .before .before .before .before .before .follow-tick .result .display .waits ≤ l .d .waits + 1 = went .waits in
-    let few : l .d .waits ≤ l .d .tick = l .inv .4 .along .waits in
-    (c .before .before .before .before .before .before .before .before .before .before .before .before .before .before .before .before .before .before .before .before .before .before .before .before .before .before .before .pre .fit .sized, omega arith, omega arith)
+    let n : tie.After-note Inv-loop μ-loop = search in
+    let p = at-loop (at-tick n) in
+    let in-time = soon (at-tick n) in
+    let one-more = ticked n in
+    let waits = waited n in
+    let few : p .loop .d .waits ≤ p .loop .d .tick = walking p .along .waits in
+    (fit p .sized, omega arith, omega arith)
 
 loop-less : tie.Need-loop-less Inv-loop μ-loop
 loop-less c =
-    let l = c .before .before .before .before .before .before .before .before .before .before .before .before .before .before .before .before .before .before .before .loop in
-    let went = c .before .before .before .before .before .before .before .before .before .before .before .before .before .before .follow-tick .ensures .counts (c .before .before .before .before .before .before .before .before .before .before .if3 .left) in
-    let one-more : c .before .before .before .before .before .before .before .before .before .before .before .before .before .before .follow-tick .result .display .tick ≡ l .d .tick + 1 = went .tick in
-    let further : c .rest-of .result .tick ≡ c .before .before .before .before .before .before .before .before .before .before .before .before .before .before .follow-tick .result .display .tick + c .rest-of .ensures .many =
+    let n : tie.After-note Inv-loop μ-loop = search in
+    let p = at-loop (at-tick n) in
+    let in-time = soon (at-tick n) in
+    let one-more = ticked n in
+    let further : c .rest-of .result .tick ≡ at-tick n .follow-tick .result .display .tick + c .rest-of .ensures .many =
     ap (λ (e : Display). e .tick) (c .rest-of .ensures .passes) in
     omega arith
 
 loop-again : tie.Need-loop-again Inv-loop μ-loop
 loop-again c =
-    let a = c .before .before .before .before .before .before .before .before .before .before .before .before .before .before .before .before .before .before .before .before .before .before .before .before .before .before .before .before .args in
-    let l = c .before .before .before .before .before .before .before .before .before .before .before .before .before .before .before .before .before .before .before .loop in
-    let fit = c .before .before .before .before .before .before .before .before .before .before .before .before .before .before .before .before .before .before .before .before .before .before .before .before .before .before .before .before .pre .fit in
-    let r = c .before .before .before .before .before .before .before .before .before .before .before .before .before .before .follow-tick .result in
-    let many : length (drawsOf (a .job .now)) ≡ a .shape .draws = draws-read (a .job .now) (a .shape) (fit .shaped) in
-    let whole = limit-read (a .job .now) (a .shape) (fit .shaped) in
-    let few : l .d .next < a .shape .draws = c .before .before .before .before .before .before .before .before .before .before .before .before .before .before .before .before .before .if1 .left in
-    let most = fit .few-draws in
-    let ticks′ : length (l .ticks) ≡ 4096 = l .inv .1 ∙ c .before .before .before .before .before .before .before .before .before .before .before .before .before .before .before .before .before .before .before .before .before .before .before .before .before .before .before .before .pre .tick-room in
-    let slots′ : length (l .slots) ≡ 4096 = l .inv .2 ∙ c .before .before .before .before .before .before .before .before .before .before .before .before .before .before .before .before .before .before .before .before .before .before .before .before .before .before .before .before .pre .slot-room in (
-      c .before .before .before .before .before .before .before .before .before .before .before .before .before .before .follow-tick .kept .1 .1 .1 .1 .0 ∙ l .inv .0,
-      ap length (c .before .before .before .before .before .before .note .ensures .0) ∙ noted-length (r .on_record .happening) (λ q. l .d .tick) (l .d .next) (l .ticks) ∙ l .inv .1,
-      ap length (c .before .before .before .before .before .before .note .ensures .1) ∙ noted-length (r .on_record .happening) (λ q. q) (l .d .next) (l .slots) ∙ l .inv .2,
+    let n : tie.After-note Inv-loop μ-loop = search in
+    let t = at-tick n in
+    let p = at-loop t in
+    let l = p .loop in
+    let r = t .follow-tick .result in
+    let noted = n .note .ensures in (
+      t .follow-tick .kept .1 .1 .1 .1 .0 ∙ l .inv .0,
+      ap length (noted .0) ∙ noted-length (r .on_record .happening) (λ q. l .d .tick) (l .d .next) (l .ticks) ∙ l .inv .1,
+      ap length (noted .1) ∙ noted-length (r .on_record .happening) (λ q. q) (l .d .next) (l .slots) ∙ l .inv .2,
       onward (l .d) (r .on_record) (l .inv .3),
-      walked-on (jobOf (a .job .now)) (eventsIn (a .count) (drop head-size (a .list .now))) (l .held) (l .d) (l .ticks) (l .slots) (l .inv .3) (l .inv .4) (omega arith)
-          (rw whole at (c .before .before .before .before .before .before .before .before .before .before .before .before .before .before .before .before .if2 .left)) (c .before .before .before .before .before .before .before .before .before .before .before .before .before .before .follow-tick .last .1 .1 .1 .1 .0) r (c .before .before .before .before .before .before .before .before .before .before .before .before .before .before .follow-tick .ensures) (c .before .before .before .before .before .before .before .before .before .before .if3 .left)
-          (c .rest-of .result) (rw whole at (c .rest-of .ensures)) (c .before .before .before .before .before .before .note .last .0) (c .before .before .before .before .before .before .note .last .1 .0) (omega arith) (omega arith)
-          (c .before .before .before .before .before .before .note .ensures .0) (c .before .before .before .before .before .before .note .ensures .1),
+      walked-on (jobOf (job p)) (events p) _ _ _ _ _ (walking p) (within t) (early t) _ r (t .follow-tick .ensures) (unrefused n)
+          (c .rest-of .result) (rw (whole p) at (c .rest-of .ensures)) (n .note .last .0) (n .note .last .1 .0) (room t .0) (room t .1)
+          (noted .0) (noted .1),
     )
 
 pub run-list-spec : {M : Type 1} → statement M

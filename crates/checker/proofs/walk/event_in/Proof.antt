@@ -1,5 +1,5 @@
 -- `event_in` meets its contract: the part of a list from a place to its end, and none past the end.
-use Prim.Native.Nat.{_-_}
+use Prim.Native.Nat.{_-_, _≤_}
 use native.Mathlib.Omega.{arith}
 use mathlib.Core.Path.{sym, ap, _∙_}
 use lib.ListN.{length, drop, length-drop, drop-of-length-le}
@@ -23,14 +23,16 @@ read-event-requires c κs = search needs
 
 returns : tie.Need-returns
 returns c =
-    let a = c .before .before .before .before .args in
+    let s : tie.Start = search in
+    let a = s .args in
     c .read-event .ensures
     ∙ ap readEvent (take-all (length (a .list .now) - a .at) (drop (a .at) (a .list .now)) (simp length-drop (omega arith)))
 
 returns-2 : tie.Need-returns-2
 returns-2 c =
-    let a = c .before .before .args in
-    sym (ap readEvent (drop-of-length-le (a .list .now) (c .if1 .left)))
+    let s : tie.Start = search in
+    let past : length (s .args .list .now) ≤ s .args .at = search in
+    sym (ap readEvent (drop-of-length-le (s .args .list .now) past))
 
 pub event-in-spec : {M : Type 1} → statement M
 event-in-spec =
