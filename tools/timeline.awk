@@ -75,6 +75,7 @@ function addWait(from, end, cause, awaited, loading) {
     waitAwaited[stretches] = awaited
     waitLoading[stretches] = loading
     waitsOf[cause] += least(end, until) - most(from, first)
+    waitsShown += least(end, until) - most(from, first)
 }
 
 # The ticks in which a symbol is awaited, cut where loads begin and end. The load at loadAt is the first that may matter.
@@ -167,4 +168,5 @@ END {
     reckonRange()
     reckonSlots()
     reckonWaits()
+    if (refusal == "" && !isCut && waitsShown + 0 != waits) stop("the picture has " waitsShown + 0 " waits, and the run " waits)
 }
