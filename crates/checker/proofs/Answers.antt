@@ -19,7 +19,7 @@ use Rattle.laws.proofs.Cases.{by-test, neither}
 use Rattle.laws.proofs.Symbols.{length-symbols}
 use Rattle.laws.proofs.Jobs.{passed}
 use Rattle.laws.proofs.Events.{length-eventsIn}
-use Rattle.checker.specs.Follow.{Sized}
+use Rattle.sheet.specs.Size.{Sized}
 
 -- A list that reads as one has its count where it was read, and the size that its events need.
 pub record ListRead (list : List ℕ) (count : ℕ) : Type 0 where

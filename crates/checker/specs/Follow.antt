@@ -1,5 +1,5 @@
 -- What the parts of a check ask for and ensure: the waits behind a tick along a list, the places noted for a draw, and the run's answer.
-use Prim.Native.Nat.{ℕ, _+_, _*_, _-_, _≤_, _<_}
+use Prim.Native.Nat.{ℕ, _+_, _-_, _≤_, _<_}
 use mathlib.Core.Path.{_≡_}
 use mathlib.Core.List.{List, map}
 use lib.ListN.{length, take, drop, set}
@@ -9,16 +9,13 @@ use Rattle.rules.specs.declared.Begun.the-variants.{NoLoad}
 use Rattle.rules.specs.declared.Happening.{Happening}
 use Rattle.rules.specs.declared.Happening.the-variants.{Draw, Wait}
 use Rattle.rules.specs.Job.{shapeOf, startingOf, most-slots, most-draws}
-use Rattle.rules.specs.LoadList.{Event, head-size, event-size}
+use Rattle.rules.specs.LoadList.{Event}
 use Rattle.rules.specs.Display.{Run}
 use Rattle.rules.specs.Refusals.{due, closing, answerOf, tickOf, slotOf, ticksOf, slotsOf, lent}
+use Rattle.sheet.specs.Size.{Sized}
 use Rattle.display.specs.View.{Beside, view}
 use Rattle.display.specs.declared.state.Display.{Display}
 use Rattle.checker.specs.declared.run.Ran.{Ran}
-
--- A list of as many bytes as its events need.
-abbrev pub Sized : ℕ → List ℕ → Type 0
-Sized count list = length list ≡ head-size + event-size * count
 
 -- A job of this shape within its limits, and a list of its size.
 pub record Fit (job list : List ℕ) (shape : Shape) (count : ℕ) : Type 0 where

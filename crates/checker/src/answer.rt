@@ -1,7 +1,6 @@
 // The check of a list against a job: every refusal in its order, then the run, whose draws are handed out only where it is accepted.
 use crate::copy::copy_slots;
 use crate::copy::copy_ticks;
-use crate::run::first_unruly;
 use crate::run::refusal;
 use crate::run::run_list;
 use rules::Answer;
@@ -69,7 +68,7 @@ pub fn check(job: &[u8], list: &[u8], ticks: &mut [u32], slots: &mut [u8]) -> An
     if slots.len() < draws {
         return refusal(7, 0);
     }
-    let first = first_unruly(list, count);
+    let first = sheet::first_unruly(list, count);
     if first < count as u32 {
         return refusal(9, first);
     }

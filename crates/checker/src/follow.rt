@@ -1,5 +1,4 @@
 // A tick of the display along a load list: what the list asks for, and the three steps.
-use crate::walk::event_of;
 use display::Display;
 use display::Ticked;
 use display::begin;
@@ -17,7 +16,8 @@ ghost use Rattle.rules.specs.Job.{jobOf};
 ghost use Rattle.rules.specs.LoadList.{eventsIn, head-size};
 ghost use Rattle.rules.specs.Refusals.{due, follow};
 ghost use Rattle.display.specs.Tick.{Room, Ticks};
-ghost use Rattle.checker.specs.Follow.{Sized, Fit};
+ghost use Rattle.sheet.specs.Size.{Sized};
+ghost use Rattle.checker.specs.Follow.{Fit};
 
 // What the list asks for in this tick, when so many of its loads have begun.
 fn asked_of(list: &[u8], count: u16, loads: u32, tick: u32) -> Begun
@@ -27,7 +27,7 @@ fn asked_of(list: &[u8], count: u16, loads: u32, tick: u32) -> Begun
     if count as u32 <= loads {
         return Begun::NoLoad;
     }
-    let reading = event_of(list, loads);
+    let reading = sheet::event_of(list, loads);
     let EventReading::Event {
         tick: at,
         slot,

@@ -1,5 +1,4 @@
 // The waits behind a tick along a list: how many of them bring nothing else, and the display behind them all.
-use crate::walk::event_of;
 use display::Display;
 use display::before_end;
 use display::pass;
@@ -13,14 +12,15 @@ ghost use Rattle.rules.specs.declared.Begun.the-variants.{NoLoad};
 ghost use Rattle.rules.specs.LoadList.{eventsIn, head-size};
 ghost use Rattle.rules.specs.Refusals.{due};
 ghost use Rattle.display.specs.Still.{Rested};
-ghost use Rattle.checker.specs.Follow.{Sized, Waits};
+ghost use Rattle.sheet.specs.Size.{Sized};
+ghost use Rattle.checker.specs.Follow.{Waits};
 
 // The ticks from this one on before that of the next event.
 fn ticks_ahead(list: &[u8], count: u16, loads: u32, tick: u32) -> u32
     requires { ⌜ Sized count (now list) × (loads < count) ⌝ }
     ensures { λ r. ⌜ ((j : ℕ) → j < r → due (drop loads (eventsIn count (drop head-size (now (list .entry))))) (tick + j) ≡ NoLoad) ⌝ }
 {
-    let reading = event_of(list, loads);
+    let reading = sheet::event_of(list, loads);
     let EventReading::Event {
         tick: at,
         slot: _,

@@ -1,11 +1,9 @@
 // The run of a display along a load list.
 use crate::follow::follow_tick;
 use crate::rest::rest_of;
-use crate::walk::event_of;
 use display::Display;
 use display::start;
 use rules::Answer;
-use rules::EventReading;
 use rules::Happening;
 use rules::Shape;
 ghost use mathlib.Core.Path.{_≡_};
@@ -14,37 +12,8 @@ ghost use lib.ListN.{length, drop};
 ghost use Rattle.rules.specs.Job.{drawsOf, jobOf};
 ghost use Rattle.rules.specs.LoadList.{eventsIn, head-size};
 ghost use Rattle.rules.specs.Display.{refused};
-ghost use Rattle.rules.specs.Refusals.{answerOf, unruly, follows};
-ghost use Rattle.checker.specs.Follow.{Sized, noted, Shown, Finished, Ready};
-
-// The first event that breaks the rule of ticks, or the number of events. (Refusal 9)
-pub fn first_unruly(list: &[u8], count: u16) -> u32
-    requires { ⌜ Sized count (now list) ⌝ }
-    ensures { λ r. ⌜ r ≡ unruly 0 (eventsIn count (drop head-size (now (list .entry)))) ⌝ }
-{
-    let mut index: u32 = 0;
-    let mut least: u32 = 0;
-    while index < count as u32 {
-        let reading = event_of(list, index);
-        let EventReading::Event {
-            tick,
-            slot: _,
-            symbol: _,
-        } = reading
-        else {
-            return index;
-        };
-        if 8388607 < tick {
-            return index;
-        }
-        if tick < least {
-            return index;
-        }
-        least = tick + 1;
-        index += 1;
-    }
-    index
-}
+ghost use Rattle.rules.specs.Refusals.{answerOf, follows};
+ghost use Rattle.checker.specs.Follow.{noted, Shown, Finished, Ready};
 
 // Notes a draw in both buffers; a wait leaves them as they are.
 fn note(ticks: &mut [u32], slots: &mut [u8], draw: u16, tick: u32, happening: Happening)

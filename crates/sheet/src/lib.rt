@@ -1,9 +1,11 @@
-// Jobs and load lists as bytes: readers that answer enums, and the writer of a list.
+// Jobs and load lists as bytes: readers that answer enums, the walk along a list, its rule of ticks, and the writer of a list.
 // Every function answers for every input; what it answers is a definition of the crate `rules`.
 mod job;
 mod list;
 mod number;
 mod row;
+mod ticks;
+mod walk;
 
 pub use job::draw_symbol;
 pub use job::read_job;
@@ -13,3 +15,5 @@ pub use list::put_event;
 pub use list::put_head;
 pub use list::read_event;
 pub use list::read_list;
+pub use ticks::first_unruly;
+pub use walk::event_of;

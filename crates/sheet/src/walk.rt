@@ -1,4 +1,5 @@
 // The walk along a load list: a reader that holds the caller's bytes and its place in them.
+use crate::list::read_event;
 use rules::EventReading;
 ghost use mathlib.Core.Path.{_≡_};
 ghost use lib.ListN.{drop};
@@ -9,7 +10,7 @@ fn event_in(list: &[u8], at: usize) -> EventReading
     ensures { λ r. ⌜ r ≡ readEvent (drop at (now (list .entry))) ⌝ }
 {
     if at < list.len() {
-        sheet::read_event(&list[at..])
+        read_event(&list[at..])
     } else {
         EventReading::Short
     }

@@ -46,20 +46,20 @@ use denote.Triple.Walked.{says, Stays, stay-none, walkOf, goes-none, Walks, ends
 use denote.Exit.{yes}
 use denote.Triple.Clauses.{ensured, lasts}
 use Rattle.rules.specs.LoadList.{readEvent}
-use Rattle.checker.specs.declared.walk.Walk.{Walk}
+use Rattle.sheet.specs.declared.walk.Walk.{Walk}
 use Rattle.rules.specs.declared.EventReading.{EventReading}
-use Rattle.checker.proofs.walk.Walk as T
-use Rattle.checker.proofs.walk.Walk.Laws as T′
+use Rattle.sheet.proofs.walk.Walk as T
+use Rattle.sheet.proofs.walk.Walk.Laws as T′
 use Rattle.rules.proofs.EventReading as S
 use Rattle.rules.proofs.EventReading.Laws as S′
-use Rattle.checker.proofs.walk.event_in as event-in
-use Rattle.checker.proofs.walk.event_in.Symbol as event-in-def
-use Rattle.checker.proofs.walk.event_in.Symbol.{name as #checker·event-in}
-use Rattle.checker.proofs.walk.event_in.Met as event-in-thm
-use Rattle.checker.proofs.walk.here.Key.{name as #checker·here}
-use Rattle.checker.proofs.walk.here as here
-use Rattle.checker.proofs.walk.here.Statement as stated
-use Rattle.checker.proofs.walk.here.Code as code
+use Rattle.sheet.proofs.walk.event_in as event-in
+use Rattle.sheet.proofs.walk.event_in.Symbol as event-in-def
+use Rattle.sheet.proofs.walk.event_in.Symbol.{name as #sheet·event-in}
+use Rattle.sheet.proofs.walk.event_in.Met as event-in-thm
+use Rattle.sheet.proofs.walk.here.Key.{name as #sheet·here}
+use Rattle.sheet.proofs.walk.here as here
+use Rattle.sheet.proofs.walk.here.Statement as stated
+use Rattle.sheet.proofs.walk.here.Code as code
 
 -- the struct's type, over the signature's lifetimes
 abbrev B : Lfts 1 → RattleType
@@ -135,7 +135,7 @@ module _ {M : Type 1} (𝓤 : URA M) (H : Heap 𝓤) (A : Atoms 𝓤) (W : Given
       (tt, tt)) $ says ! e $
       move ! (1 ∷ []) $ frame ! $ nothing ! $ move ! (2 ∷ 0 ∷ []) $ fjoin ! $ frame ! $ done !
 
-  module _ (C : Calls 𝓤 H) (Λ : Loops 𝓤 H) (fm : FmC 𝓤 H (W .laws) C) (known : Triple 𝓤 (C #checker·event-in) (EventIn 𝓤 H A mem run)) where
+  module _ (C : Calls 𝓤 H) (Λ : Loops 𝓤 H) (fm : FmC 𝓤 H (W .laws) C) (known : Triple 𝓤 (C #sheet·event-in) (EventIn 𝓤 H A mem run)) where
     walk : Holds (hasTy (T′.mir (named 0)) mach) × WT mach → ent 𝓤 (onEntry 𝓤 H A here.signature (κ, tt) (q, tt) (d, tt) (mach ∷ [], tt))
         (WpFn 𝓤 H C Λ code.function (mach ∷ []) Post)
     walk wt =
@@ -158,7 +158,7 @@ module _ {M : Type 1} (𝓤 : URA M) (H : Heap 𝓤) (A : Atoms 𝓤) (W : Given
         by ! (exits r u e)))))))))
 
 module _ {M : Type 1} (𝓤 : URA M) (H : Heap 𝓤) (A : Atoms 𝓤) (W : Given 𝓤 H A) (mem : Memory → SProp 𝓤) (run : Routine → Fun 𝓤) where
-  here-walks : (C : Calls 𝓤 H) (Λ : Loops 𝓤 H) → FmC 𝓤 H (W .laws) C → Triple 𝓤 (C #checker·event-in) (EventIn 𝓤 H A mem run)
+  here-walks : (C : Calls 𝓤 H) (Λ : Loops 𝓤 H) → FmC 𝓤 H (W .laws) C → Triple 𝓤 (C #sheet·event-in) (EventIn 𝓤 H A mem run)
       → Walks 𝓤 H A here.ended stayed (WpFn 𝓤 H C Λ code.function) (here.clauses 𝓤 H A mem run)
   here-walks C Λ fm known =
       walked 𝓤 H A here.ended stayed (here.clauses 𝓤 H A mem run) (WpFn 𝓤 H C Λ code.function)
@@ -168,7 +168,7 @@ module _ {M : Type 1} (𝓤 : URA M) (H : Heap 𝓤) (A : Atoms 𝓤) (W : Given
       (LL.lawful (T.the-type (namedLft 1 0 tt κs)) (T′.the-laws (namedLft 1 0 tt κs)) 𝓤 H A W .typed (a .0) _ (are .0) .0)))
 
 here-meets : {M : Type 1} (𝓤 : URA M) (H : Heap 𝓤) (A : Atoms 𝓤) (W : Given 𝓤 H A) (mem : Memory → SProp 𝓤) (run : Routine → Fun 𝓤) (𝓣 : Tables 𝓤 H)
-    → Triple 𝓤 (𝓣 .C #checker·event-in) (EventIn 𝓤 H A mem run)
+    → Triple 𝓤 (𝓣 .C #sheet·event-in) (EventIn 𝓤 H A mem run)
     → Meets 𝓤 H A here.signature (WpFn 𝓤 H (𝓣 .C) (𝓣 .Λ) code.function) (here.spec 𝓤 H A mem run)
 here-meets 𝓤 H A W mem run 𝓣 known-event-in =
     walk-meets 𝓤 H A here.ended stayed W (goes-none 𝓤 H A W 1 B yes (λ κs x f. refl), tt) (here.clauses 𝓤 H A mem run)
@@ -179,7 +179,7 @@ pub here-spec : {M : Type 1} → stated.statement M
 unfolding code.routine tablesOf
 here-spec 𝓤 H 𝓜 𝓖 𝓡 =
     entered 𝓤 H (tripleOf 𝓤 H (𝓖 .A) here.signature (here.spec 𝓤 H (𝓖 .A) (𝓜 .mem) (𝓡 .run)))
-    (tables 𝓤 H 𝓜 𝓡 code.env .C) (tables 𝓤 H 𝓜 𝓡 code.env .Λ) #checker·here code.function (code.unfolded 𝓤 H 𝓜 𝓡)
+    (tables 𝓤 H 𝓜 𝓡 code.env .C) (tables 𝓤 H 𝓜 𝓡 code.env .Λ) #sheet·here code.function (code.unfolded 𝓤 H 𝓜 𝓡)
     (here-meets 𝓤 H (𝓖 .A) (givenOf 𝓤 H 𝓜 𝓖) (𝓜 .mem) (𝓡 .run) (tablesOf 𝓤 H 𝓜 (tables 𝓤 H 𝓜 𝓡 code.env))
-    (cited 𝓤 H (EventIn 𝓤 H (𝓖 .A) (𝓜 .mem) (𝓡 .run)) 𝓜 𝓡 code.env #checker·event-in event-in-def.routine code.calls-checker·walk·event-in
+    (cited 𝓤 H (EventIn 𝓤 H (𝓖 .A) (𝓜 .mem) (𝓡 .run)) 𝓜 𝓡 code.env #sheet·event-in event-in-def.routine code.calls-sheet·walk·event-in
     (event-in-thm.met 𝓤 H 𝓜 𝓖 𝓡)))

@@ -39,24 +39,24 @@ use denote.Triple.Walked.{says, Stays, stay-none, stay-none-slice, walkOf, goes-
 use denote.Exit.{yes}
 use denote.Triple.Clauses.{ensured, lasts}
 use Rattle.rules.specs.LoadList.{readEvent}
-use Rattle.checker.specs.declared.walk.Walk.{Walk}
+use Rattle.sheet.specs.declared.walk.Walk.{Walk}
 use Rattle.rules.specs.declared.EventReading.{EventReading}
-use Rattle.checker.proofs.walk.Walk as T
-use Rattle.checker.proofs.walk.Walk.Laws as T′
+use Rattle.sheet.proofs.walk.Walk as T
+use Rattle.sheet.proofs.walk.Walk.Laws as T′
 use Rattle.rules.proofs.EventReading as S
 use Rattle.rules.proofs.EventReading.Laws as S′
-use Rattle.checker.proofs.walk.placed as placed
-use Rattle.checker.proofs.walk.placed.Symbol as placed-def
-use Rattle.checker.proofs.walk.placed.Symbol.{name as #checker·placed}
-use Rattle.checker.proofs.walk.placed.Met as placed-thm
-use Rattle.checker.proofs.walk.here as here
-use Rattle.checker.proofs.walk.here.Symbol as here-def
-use Rattle.checker.proofs.walk.here.Symbol.{name as #checker·here}
-use Rattle.checker.proofs.walk.here.Met as here-thm
-use Rattle.checker.proofs.walk.event_from.Key.{name as #checker·event-from}
-use Rattle.checker.proofs.walk.event_from as event-from
-use Rattle.checker.proofs.walk.event_from.Statement as stated
-use Rattle.checker.proofs.walk.event_from.Code as code
+use Rattle.sheet.proofs.walk.placed as placed
+use Rattle.sheet.proofs.walk.placed.Symbol as placed-def
+use Rattle.sheet.proofs.walk.placed.Symbol.{name as #sheet·placed}
+use Rattle.sheet.proofs.walk.placed.Met as placed-thm
+use Rattle.sheet.proofs.walk.here as here
+use Rattle.sheet.proofs.walk.here.Symbol as here-def
+use Rattle.sheet.proofs.walk.here.Symbol.{name as #sheet·here}
+use Rattle.sheet.proofs.walk.here.Met as here-thm
+use Rattle.sheet.proofs.walk.event_from.Key.{name as #sheet·event-from}
+use Rattle.sheet.proofs.walk.event_from as event-from
+use Rattle.sheet.proofs.walk.event_from.Statement as stated
+use Rattle.sheet.proofs.walk.event_from.Code as code
 
 -- the struct's type, over the signature's lifetimes
 abbrev B : Lfts 1 → RattleType
@@ -132,8 +132,8 @@ module _ {M : Type 1} (𝓤 : URA M) (H : Heap 𝓤) (A : Atoms 𝓤) (W : Given
       move ! (1 ∷ []) $ frame ! $ nothing ! $ owned ! usize (Is usize) (uint-makes 𝓤 H A W w64) n _ (refl, ok) $ fjoin ! $ move ! (2 ∷ 0 ∷ []) $
       fjoin ! $ frame ! $ done !
 
-  module _ (C : Calls 𝓤 H) (Λ : Loops 𝓤 H) (fm : FmC 𝓤 H (W .laws) C) (known-placed : Triple 𝓤 (C #checker·placed) (Placed 𝓤 H A mem run))
-      (known-here : Triple 𝓤 (C #checker·here) (Here 𝓤 H A mem run)) where
+  module _ (C : Calls 𝓤 H) (Λ : Loops 𝓤 H) (fm : FmC 𝓤 H (W .laws) C) (known-placed : Triple 𝓤 (C #sheet·placed) (Placed 𝓤 H A mem run))
+      (known-here : Triple 𝓤 (C #sheet·here) (Here 𝓤 H A mem run)) where
     walk : Is (ShrSlice (named 0) κ u8) s (v ∷ []) → ent 𝓤 (onEntry 𝓤 H A event-from.signature (κ, tt) (q, tt) (s, (n, tt)) at)
         (WpFn 𝓤 H C Λ code.function (v ∷ vint w64 n ∷ []) Post)
     walk p =
@@ -166,8 +166,8 @@ module _ {M : Type 1} (𝓤 : URA M) (H : Heap 𝓤) (A : Atoms 𝓤) (W : Given
         (e .1))))))))))))))))
 
 module _ {M : Type 1} (𝓤 : URA M) (H : Heap 𝓤) (A : Atoms 𝓤) (W : Given 𝓤 H A) (mem : Memory → SProp 𝓤) (run : Routine → Fun 𝓤) where
-  event-from-walks : (C : Calls 𝓤 H) (Λ : Loops 𝓤 H) → FmC 𝓤 H (W .laws) C → Triple 𝓤 (C #checker·placed) (Placed 𝓤 H A mem run)
-      → Triple 𝓤 (C #checker·here) (Here 𝓤 H A mem run)
+  event-from-walks : (C : Calls 𝓤 H) (Λ : Loops 𝓤 H) → FmC 𝓤 H (W .laws) C → Triple 𝓤 (C #sheet·placed) (Placed 𝓤 H A mem run)
+      → Triple 𝓤 (C #sheet·here) (Here 𝓤 H A mem run)
       → Walks 𝓤 H A event-from.ended stayed (WpFn 𝓤 H C Λ code.function) (event-from.clauses 𝓤 H A mem run)
   event-from-walks C Λ fm known-placed known-here =
       walked 𝓤 H A event-from.ended stayed (event-from.clauses 𝓤 H A mem run) (WpFn 𝓤 H C Λ code.function) (λ κs. (slice-vals, (uint-vals w64, tt)))
@@ -176,7 +176,7 @@ module _ {M : Type 1} (𝓤 : URA M) (H : Heap 𝓤) (A : Atoms 𝓤) (W : Given
       known-here (are .0)))
 
 event-from-meets : {M : Type 1} (𝓤 : URA M) (H : Heap 𝓤) (A : Atoms 𝓤) (W : Given 𝓤 H A) (mem : Memory → SProp 𝓤) (run : Routine → Fun 𝓤) (𝓣 : Tables 𝓤 H)
-    → Triple 𝓤 (𝓣 .C #checker·placed) (Placed 𝓤 H A mem run) → Triple 𝓤 (𝓣 .C #checker·here) (Here 𝓤 H A mem run)
+    → Triple 𝓤 (𝓣 .C #sheet·placed) (Placed 𝓤 H A mem run) → Triple 𝓤 (𝓣 .C #sheet·here) (Here 𝓤 H A mem run)
     → Meets 𝓤 H A event-from.signature (WpFn 𝓤 H (𝓣 .C) (𝓣 .Λ) code.function) (event-from.spec 𝓤 H A mem run)
 event-from-meets 𝓤 H A W mem run 𝓣 known-placed known-here =
     walk-meets 𝓤 H A event-from.ended stayed W
@@ -188,7 +188,7 @@ pub event-from-spec : {M : Type 1} → stated.statement M
 unfolding code.routine tablesOf
 event-from-spec 𝓤 H 𝓜 𝓖 𝓡 =
     entered 𝓤 H (tripleOf 𝓤 H (𝓖 .A) event-from.signature (event-from.spec 𝓤 H (𝓖 .A) (𝓜 .mem) (𝓡 .run)))
-    (tables 𝓤 H 𝓜 𝓡 code.env .C) (tables 𝓤 H 𝓜 𝓡 code.env .Λ) #checker·event-from code.function (code.unfolded 𝓤 H 𝓜 𝓡)
+    (tables 𝓤 H 𝓜 𝓡 code.env .C) (tables 𝓤 H 𝓜 𝓡 code.env .Λ) #sheet·event-from code.function (code.unfolded 𝓤 H 𝓜 𝓡)
     (event-from-meets 𝓤 H (𝓖 .A) (givenOf 𝓤 H 𝓜 𝓖) (𝓜 .mem) (𝓡 .run) (tablesOf 𝓤 H 𝓜 (tables 𝓤 H 𝓜 𝓡 code.env))
-    (cited 𝓤 H (Placed 𝓤 H (𝓖 .A) (𝓜 .mem) (𝓡 .run)) 𝓜 𝓡 code.env #checker·placed placed-def.routine code.calls-checker·walk·placed (placed-thm.met 𝓤 H 𝓜 𝓖 𝓡))
-    (cited 𝓤 H (Here 𝓤 H (𝓖 .A) (𝓜 .mem) (𝓡 .run)) 𝓜 𝓡 code.env #checker·here here-def.routine code.calls-checker·walk·here (here-thm.met 𝓤 H 𝓜 𝓖 𝓡)))
+    (cited 𝓤 H (Placed 𝓤 H (𝓖 .A) (𝓜 .mem) (𝓡 .run)) 𝓜 𝓡 code.env #sheet·placed placed-def.routine code.calls-sheet·walk·placed (placed-thm.met 𝓤 H 𝓜 𝓖 𝓡))
+    (cited 𝓤 H (Here 𝓤 H (𝓖 .A) (𝓜 .mem) (𝓡 .run)) 𝓜 𝓡 code.env #sheet·here here-def.routine code.calls-sheet·walk·here (here-thm.met 𝓤 H 𝓜 𝓖 𝓡)))

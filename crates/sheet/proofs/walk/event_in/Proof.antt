@@ -6,8 +6,8 @@ use lib.ListN.{length, drop, length-drop, drop-of-length-le}
 use lib.Seq.{take-all}
 use borrow.Author.Needs.{needs}
 use Rattle.rules.specs.LoadList.{readEvent}
-use Rattle.checker.proofs.walk.event_in.Statement.{statement}
-use Rattle.checker.proofs.walk.event_in.Tie as tie
+use Rattle.sheet.proofs.walk.event_in.Statement.{statement}
+use Rattle.sheet.proofs.walk.event_in.Tie as tie
 
 sub-read-event : tie.Need-sub-read-event
 sub-read-event c = search needs

@@ -33,13 +33,13 @@ use denote.Triple.Spec.{Meets, tripleOf}
 use denote.Triple.Table.{entered}
 use denote.Triple.Walked.{says, Stays, stay-none, stay-none-slice, walkOf, goes-none, goes-none-slice, Walks, ends-at, walked, walk-meets}
 use denote.Exit.{yes}
-use Rattle.checker.specs.declared.walk.Walk.{Walk}
-use Rattle.checker.proofs.walk.Walk as T
-use Rattle.checker.proofs.walk.Walk.Laws as T′
-use Rattle.checker.proofs.walk.placed.Key.{name as #checker·placed}
-use Rattle.checker.proofs.walk.placed as placed
-use Rattle.checker.proofs.walk.placed.Statement as stated
-use Rattle.checker.proofs.walk.placed.Code as code
+use Rattle.sheet.specs.declared.walk.Walk.{Walk}
+use Rattle.sheet.proofs.walk.Walk as T
+use Rattle.sheet.proofs.walk.Walk.Laws as T′
+use Rattle.sheet.proofs.walk.placed.Key.{name as #sheet·placed}
+use Rattle.sheet.proofs.walk.placed as placed
+use Rattle.sheet.proofs.walk.placed.Statement as stated
+use Rattle.sheet.proofs.walk.placed.Code as code
 
 abbrev stayed : Stays (placed.ended .signature .params) (placed.ended .kept)
 stayed = (stay-none-slice (0 ∷ []) tt (plain (λ _. u8)) yes, (stay-none (λ _. usize) yes, tt))
@@ -109,5 +109,5 @@ pub placed-spec : {M : Type 1} → stated.statement M
 unfolding code.routine tablesOf
 placed-spec 𝓤 H 𝓜 𝓖 𝓡 =
     entered 𝓤 H (tripleOf 𝓤 H (𝓖 .A) placed.signature (placed.spec 𝓤 H (𝓖 .A) (𝓜 .mem) (𝓡 .run)))
-    (tables 𝓤 H 𝓜 𝓡 code.env .C) (tables 𝓤 H 𝓜 𝓡 code.env .Λ) #checker·placed code.function (code.unfolded 𝓤 H 𝓜 𝓡)
+    (tables 𝓤 H 𝓜 𝓡 code.env .C) (tables 𝓤 H 𝓜 𝓡 code.env .Λ) #sheet·placed code.function (code.unfolded 𝓤 H 𝓜 𝓡)
     (placed-meets 𝓤 H (𝓖 .A) (givenOf 𝓤 H 𝓜 𝓖) (𝓜 .mem) (𝓡 .run) (tablesOf 𝓤 H 𝓜 (tables 𝓤 H 𝓜 𝓡 code.env)))

@@ -9,8 +9,8 @@ use Rattle.rules.specs.declared.EventReading.the-variants.{Short}
 use Rattle.rules.specs.LoadList.{Event, event, head-size, eventsIn}
 use Rattle.rules.specs.Refusals.{unruly}
 use Rattle.laws.proofs.Events.{length-eventsIn, event-read, never-short, unruly-over, unruly-low, unruly-further, unruly-none}
-use Rattle.checker.proofs.run.first_unruly.Statement.{statement}
-use Rattle.checker.proofs.run.first_unruly.Tie as tie
+use Rattle.sheet.proofs.ticks.first_unruly.Statement.{statement}
+use Rattle.sheet.proofs.ticks.first_unruly.Tie as tie
 
 abbrev Inv-loop : tie.InvT-loop
 Inv-loop list count index₀ least₀ index least =
