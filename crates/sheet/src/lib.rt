@@ -15,5 +15,6 @@ pub use list::put_event;
 pub use list::put_head;
 pub use list::read_event;
 pub use list::read_list;
+pub use number::put_number32;
 pub use ticks::first_unruly;
 pub use walk::event_of;

@@ -2,6 +2,7 @@
 use crate::number::byte_at;
 use crate::number::number16_at;
 use crate::number::number32_at;
+use crate::number::put32;
 use rules::EventReading;
 use rules::ListReading;
 ghost use mathlib.Core.Path.{_≡_};
@@ -54,10 +55,7 @@ fn put_first(part: &mut [u8], long: u32, byte: u8, short: u16)
     requires { ⌜ event-size ≤ length (now part) ⌝ }
     ensures { λ r. ⌜ now (part .exit) ≡ eventBytes (event long byte short) ++ drop event-size (now (part .entry)) ⌝ }
 {
-    part[0] = (long / 16777216) as u8;
-    part[1] = (long / 65536 % 256) as u8;
-    part[2] = (long / 256 % 256) as u8;
-    part[3] = (long % 256) as u8;
+    put32(part, long);
     part[4] = byte;
     part[5] = (short / 256) as u8;
     part[6] = (short % 256) as u8;

@@ -1,73 +1,60 @@
--- `put_first` meets its contract: seven stores put seven bytes at the front.
+-- `put_first` meets its contract: a number of four bytes and then three stores put seven bytes at the front.
+use Prim.Native.Nat.{ℕ, _+_, _≤_}
 use native.Mathlib.Omega.{arith}
-use mathlib.Core.List.{[], _∷_}
-use lib.ListN.{length-set}
-use lib.Seq.{sets-eq}
+use mathlib.Core.List.{List, [], _∷_, _++_}
+use mathlib.Core.Path.{_≡_, ap, _∙_}
+use lib.ListN.{length, take, drop, set, length-set, length-append, length-drop}
+use lib.Seq.{sets-eq, drop-drop}
 use borrow.Author.Needs.{needs}
+use Rattle.rules.specs.Basics.{bytes32}
 use Rattle.sheet.proofs.list.put_first.Statement.{statement}
 use Rattle.sheet.proofs.list.put_first.Tie as tie
 
-cast-part : tie.Need-cast-part
-cast-part c = search needs
+-- Three bytes after four that were written.
+three-more : (long a b d : ℕ) (part last : List ℕ) → 7 ≤ length part → last ≡ bytes32 long ++ drop 4 part
+    → set (set (set last 4 a) 5 b) 6 d ≡ bytes32 long ++ (a ∷ b ∷ d ∷ []) ++ drop 7 part
+three-more long a b d part last enough e =
+    let long-enough : 7 ≤ length last = rw (e, length-append (bytes32 long) (drop 4 part), length-drop 4 part) (omega arith) in
+    sets-eq (a ∷ b ∷ d ∷ []) last 4 long-enough
+    ∙ ap (λ (l : List ℕ). take 4 l ++ (a ∷ b ∷ d ∷ []) ++ drop 7 l) e
+    ∙ ap (λ (l : List ℕ). bytes32 long ++ (a ∷ b ∷ d ∷ []) ++ l) (drop-drop 3 4 part)
+
+put32-requires : tie.Need-put32-requires
+put32-requires c κs = search needs
 
 slice-write-part : tie.Need-slice-write-part
 slice-write-part c = search needs
 
-cast-part-2 : tie.Need-cast-part-2
-cast-part-2 c = search needs
+cast-part : tie.Need-cast-part
+cast-part c = search needs
 
 slice-write-part-2 : tie.Need-slice-write-part-2
 slice-write-part-2 c = simp length-set (omega arith)
 
-cast-part-3 : tie.Need-cast-part-3
-cast-part-3 c = search needs
+cast-part-2 : tie.Need-cast-part-2
+cast-part-2 c = search needs
 
 slice-write-part-3 : tie.Need-slice-write-part-3
-slice-write-part-3 c = simp length-set (omega arith)
-
-cast-part-4 : tie.Need-cast-part-4
-cast-part-4 c = search needs
-
-slice-write-part-4 : tie.Need-slice-write-part-4
-slice-write-part-4 c = simp length-set (omega arith)
-
-slice-write-part-5 : tie.Need-slice-write-part-5
-slice-write-part-5 c = simp length-set (omega arith)
-
-cast-part-5 : tie.Need-cast-part-5
-cast-part-5 c = search needs
-
-slice-write-part-6 : tie.Need-slice-write-part-6
-slice-write-part-6 c = simp length-set (omega arith)
-
-cast-part-6 : tie.Need-cast-part-6
-cast-part-6 c = search needs
-
-slice-write-part-7 : tie.Need-slice-write-part-7
-slice-write-part-7 c = simp length-set (omega arith)
+slice-write-part-3 c = search needs
 
 same-length : tie.Need-same-length
 same-length c = search needs
 
 returns : tie.Need-returns
-returns c = sets-eq (_ ∷ _ ∷ _ ∷ _ ∷ _ ∷ _ ∷ _ ∷ []) (c .args .part .now) 0 (c .pre)
+returns c =
+    let s : tie.Start = search in
+    let p : tie.After-put32 = search in
+    three-more (s .args .long) _ _ _ (s .args .part .now) (p .put32 .last .0) (s .pre) (p .put32 .ensures)
 
 pub put-first-spec : {M : Type 1} → statement M
 put-first-spec =
     tie.close
     (tie.spec
-    cast-part
+    put32-requires
     slice-write-part
-    cast-part-2
+    cast-part
     slice-write-part-2
-    cast-part-3
+    cast-part-2
     slice-write-part-3
-    cast-part-4
-    slice-write-part-4
-    slice-write-part-5
-    cast-part-5
-    slice-write-part-6
-    cast-part-6
-    slice-write-part-7
     same-length
     returns)

@@ -1,11 +1,11 @@
--- `put_tick` meets its contract: four stores put four bytes at the front.
+-- `put32` meets its contract: four stores put four bytes at the front.
 use native.Mathlib.Omega.{arith}
 use mathlib.Core.List.{[], _∷_}
 use lib.ListN.{length-set}
 use lib.Seq.{sets-eq}
 use borrow.Author.Needs.{needs}
-use Rattle.govahrin.proofs.ticks.put_tick.Statement.{statement}
-use Rattle.govahrin.proofs.ticks.put_tick.Tie as tie
+use Rattle.sheet.proofs.number.put32.Statement.{statement}
+use Rattle.sheet.proofs.number.put32.Tie as tie
 
 cast-part : tie.Need-cast-part
 cast-part c = search needs
@@ -37,8 +37,8 @@ same-length c = search needs
 returns : tie.Need-returns
 returns c = sets-eq (_ ∷ _ ∷ _ ∷ _ ∷ []) (c .args .part .now) 0 (c .pre)
 
-pub put-tick-spec : {M : Type 1} → statement M
-put-tick-spec =
+pub put32-spec : {M : Type 1} → statement M
+put32-spec =
     tie.close
     (tie.spec
     cast-part
