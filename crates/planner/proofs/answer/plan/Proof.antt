@@ -1,6 +1,7 @@
 -- Each refusal is a test of the definition, in its order; what is left is the run, written where it is over.
-use Prim.Native.Nat.{ℕ, _+_, _*_, _≤_}
+use Prim.Native.Nat.{ℕ, _+_, _*_, _<_, _≤_}
 use native.Mathlib.Omega.{arith}
+use mathlib.Core.Bool.{true, false}
 use mathlib.Core.List.{List}
 use mathlib.Core.Path.{_≡_, sym, ap, _∙_}
 use lib.ListN.{length, replicate, length-replicate}
@@ -9,8 +10,10 @@ use Rattle.rules.specs.Display.{Run, going, refused}
 use Rattle.rules.specs.Job.{drawsOf}
 use Rattle.rules.specs.LoadList.{head-size, event-size}
 use Rattle.rules.specs.Refusals.{readJob, jobNumber, planned, answerOf, writtenBy, lent}
+use Rattle.rules.specs.declared.Answer.{Answer}
 use Rattle.rules.specs.declared.JobReading.{JobReading}
 use Rattle.rules.specs.declared.JobReading.the-variants.{Taken}
+use Rattle.rules.specs.declared.Shape.{Shape}
 use Rattle.planner.proofs.Planning.{planned-untaken, planned-unknown, planned-short, planned-over, planned-late, draws-many, untouched, written, fitting}
 use Rattle.planner.proofs.answer.plan.Statement.{statement}
 use Rattle.planner.proofs.answer.plan.Tie as tie
@@ -27,32 +30,60 @@ enum-told c = search needs
 refusal-of-requires : tie.Need-refusal-of-requires
 refusal-of-requires c κs = search needs
 
+-- What the function was handed, and what the definition answers to it.
+module _ (p : tie.After-read-job) where
+  abbrev at-start : tie.Start
+  at-start = search
+
+  abbrev job : List ℕ
+  job = at-start .args .job .now
+
+  abbrev room : List ℕ
+  room = at-start .args .room .now
+
+  abbrev plan : ℕ
+  plan = at-start .args .plan
+
+  abbrev verdict : Run
+  verdict = planned job plan (length room)
+
+  -- A refusal leaves the room as it was.
+  refuses : (number : ℕ) (answer : Answer) → answer ≡ answerOf (refused number 0) → verdict ≡ refused number 0
+      → (answer ≡ answerOf verdict) × (room ≡ lent (writtenBy verdict) room)
+  refuses number answer answers halts = (answers ∙ ap answerOf (sym halts), untouched verdict number 0 room halts)
+
 returns : tie.Need-returns
 returns c =
-    let job : List ℕ = c .before .before .before .before .before .before .args .job .now in
-    let room : List ℕ = c .before .before .before .before .before .before .args .room .now in
-    let plan : ℕ = c .before .before .before .before .before .before .args .plan in
-    let n = c .before .enum-told .given .0 .0 in
-    let halts : planned job plan (length room) ≡ refused n 0 =
-    planned-untaken job plan (length room) n (sym (c .before .before .before .read-job .ensures) ∙ c .before .enum-told .given .1) in (
-      c .refusal-of .ensures
-          ∙ ap (λ (x : JobReading). answerOf (refused (jobNumber x) 0)) (c .before .enum-told .given .1)
-          ∙ ap answerOf (sym halts),
-      untouched (planned job plan (length room)) n 0 room halts,
-    )
+    let p : tie.After-read-job = search in
+    let told : tie.After-enum-told = search in
+    let number = told .enum-told .given .0 .0 in
+    refuses p number _
+    (c .refusal-of .ensures ∙ ap (λ (x : JobReading). answerOf (refused (jobNumber x) 0)) (told .enum-told .given .1))
+    (planned-untaken (job p) (plan p) (length (room p)) number (sym (p .read-job .ensures) ∙ told .enum-told .given .1))
+
+-- A job that was taken, with its shape.
+module _ (p : tie.After-reading) where
+  abbrev at-read : tie.After-read-job
+  at-read = search
+
+  abbrev shape : Shape
+  shape = p .reading .given .0 .0
+
+  taken : readJob (job at-read) ≡ Taken shape
+  taken = sym (at-read .read-job .ensures) ∙ p .reading .given .1
+
+  many : length (drawsOf (job at-read)) ≡ shape .draws
+  many = draws-many (job at-read) shape taken
 
 refusal-requires : tie.Need-refusal-requires
 refusal-requires c κs = search needs
 
 returns-2 : tie.Need-returns-2
 returns-2 c =
-    let job : List ℕ = c .before .before .before .before .before .before .before .before .args .job .now in
-    let room : List ℕ = c .before .before .before .before .before .before .before .before .args .room .now in
-    let plan : ℕ = c .before .before .before .before .before .before .before .before .args .plan in
-    let shape = c .before .before .before .reading .given .0 .0 in
-    let taken : readJob job ≡ Taken shape = sym (c .before .before .before .before .before .read-job .ensures) ∙ c .before .before .before .reading .given .1 in
-    let halts : planned job plan (length room) ≡ refused 6 0 = planned-unknown job plan (length room) shape taken (c .before .if1 .taken) in
-    (c .refusal .ensures ∙ ap answerOf (sym halts), untouched (planned job plan (length room)) 6 0 room halts)
+    let p : tie.After-reading = search in
+    let r = at-read p in
+    let unknown : 3 < plan r = search in
+    refuses r 6 _ (search) (planned-unknown (job r) (plan r) (length (room r)) (shape p) (taken p) unknown)
 
 cast-if2 : tie.Need-cast-if2
 cast-if2 c = search needs
@@ -68,15 +99,12 @@ refusal-requires-2 c κs = search needs
 
 returns-3 : tie.Need-returns-3
 returns-3 c =
-    let job : List ℕ = c .before .before .before .before .before .before .before .before .before .before .args .job .now in
-    let room : List ℕ = c .before .before .before .before .before .before .before .before .before .before .args .room .now in
-    let plan : ℕ = c .before .before .before .before .before .before .before .before .before .before .args .plan in
-    let shape = c .before .before .before .before .before .reading .given .0 .0 in
-    let taken : readJob job ≡ Taken shape = sym (c .before .before .before .before .before .before .before .read-job .ensures) ∙ c .before .before .before .before .before .reading .given .1 in
-    let many : length (drawsOf job) ≡ shape .draws = draws-many job shape taken in
-    let halts : planned job plan (length room) ≡ refused 7 0 =
-    planned-short job plan (length room) shape taken (c .before .before .before .if1 .left) (omega (arith, c .before .if2 .taken)) in
-    (c .refusal2 .ensures ∙ ap answerOf (sym halts), untouched (planned job plan (length room)) 7 0 room halts)
+    let p : tie.After-reading = search in
+    let r = at-read p in
+    let known : plan r ≤ 3 = search in
+    let short : length (room r) < 7 + 7 * shape p .draws = search in
+    let draws = many p in
+    refuses r 7 _ (search) (planned-short (job r) (plan r) (length (room r)) (shape p) (taken p) known (omega arith))
 
 slice-aggregate-run-of : tie.Need-slice-aggregate-run-of
 slice-aggregate-run-of c = search needs
@@ -90,12 +118,27 @@ slice-aggregate-run-of-3 c = search needs
 slice-aggregate-run-of-4 : tie.Need-slice-aggregate-run-of-4
 slice-aggregate-run-of-4 c = search needs
 
+whole : length (replicate {A = ℕ} 4096 0) ≡ 4096
+whole = length-replicate {A = ℕ} 4096 0
+
 run-of-requires : tie.Need-run-of-requires
 run-of-requires c κs =
-    let room : length (replicate {A = ℕ} 4096 0) ≡ 4096 = length-replicate {A = ℕ} 4096 0 in (
-      sym (c .before .before .before .before .before .before .before .before .before .before .read-job .ensures) ∙ c .before .before .before .before .before .before .before .before .reading .given .1,
-      record { ticks-room = room; draws-room = room; slots-room = room; symbols-room = room },
-    )
+    let p : tie.After-reading = search in
+    (taken p, record { ticks-room = whole; draws-room = whole; slots-room = whole; symbols-room = whole })
+
+-- The run of a plan that is known, of a job for whose list there is room.
+module _ (p : tie.After-run-of) where
+  abbrev at-reading : tie.After-reading
+  at-reading = search
+
+  known : plan (at-read at-reading) ≤ 3
+  known = search
+
+  enough : head-size + event-size * length (drawsOf (job (at-read at-reading))) ≤ length (room (at-read at-reading))
+  enough =
+      let roomy : 7 + 7 * shape at-reading .draws ≤ length (room (at-read at-reading)) = search in
+      let draws = many at-reading in
+      omega arith
 
 cast-write-list : tie.Need-cast-write-list
 cast-write-list c = search needs
@@ -111,36 +154,36 @@ slice-aggregate-write-list-3 c = search needs
 
 write-list-requires : tie.Need-write-list-requires
 write-list-requires c κs =
-    let job : List ℕ = c .before .before .before .before .before .before .before .before .before .before .before .before .before .before .before .before .before .before .before .before .before .before .before .before .before .args .job .now in
-    let room : List ℕ = c .before .before .before .before .before .before .before .before .before .before .before .before .before .before .before .before .before .before .before .before .before .before .before .before .before .args .room .now in
-    let plan : ℕ = c .before .before .before .before .before .before .before .before .before .before .before .before .before .before .before .before .before .before .before .before .before .before .before .before .before .args .plan in
-    let shape = c .before .before .before .before .before .before .before .before .before .before .before .before .before .before .before .before .before .before .before .before .reading .given .0 .0 in
-    let taken : readJob job ≡ Taken shape = sym (c .before .before .before .before .before .before .before .before .before .before .before .before .before .before .before .before .before .before .before .before .before .before .read-job .ensures) ∙ c .before .before .before .before .before .before .before .before .before .before .before .before .before .before .before .before .before .before .before .before .reading .given .1 in
-    let many : length (drawsOf job) ≡ shape .draws = draws-many job shape taken in
-    let ran = c .before .before .before .before .before .before .before .before .before .before .before .run-of in
-    let whole : length (replicate {A = ℕ} 4096 0) ≡ 4096 = length-replicate {A = ℕ} 4096 0 in
-    let enough : head-size + event-size * length (drawsOf job) ≤ length room = omega (arith, c .before .before .before .before .before .before .before .before .before .before .before .before .before .before .before .before .if2 .left) in
-    fitting job shape taken plan (ran .result) _ _ _ _ (ran .ensures) (ran .kept .1 .1 .1 .0 ∙ whole) (ran .kept .1 .1 .1 .1 .1 .0 ∙ whole) (ran .kept .1 .1 .1 .1 .1 .1 .0 ∙ whole) room enough
+    let u : tie.After-run-of = search in
+    let p = at-reading u in
+    let r = at-read p in
+    let ran = u .run-of in
+    fitting (job r) (shape p) (taken p) (plan r) (ran .result) _ _ _ _ (ran .ensures) (ran .kept .1 .1 .1 .0 ∙ whole)
+    (ran .kept .1 .1 .1 .1 .1 .0 ∙ whole) (ran .kept .1 .1 .1 .1 .1 .1 .0 ∙ whole) (room r) (enough u)
 
 same-length : tie.Need-same-length
 same-length c = search needs
 
+-- The list is written.
+module _ (p : tie.After-write-list) where
+  abbrev at-run-of : tie.After-run-of
+  at-run-of = search
+
+  over : at-run-of .run-of .result .over ≡ true
+  over = search
+
 returns-4 : tie.Need-returns-4
 returns-4 c =
-    let job : List ℕ = c .before .before .before .before .before .before .before .before .before .before .before .before .before .before .before .before .before .before .before .before .before .before .before .before .before .before .before .before .args .job .now in
-    let room : List ℕ = c .before .before .before .before .before .before .before .before .before .before .before .before .before .before .before .before .before .before .before .before .before .before .before .before .before .before .before .before .args .room .now in
-    let plan : ℕ = c .before .before .before .before .before .before .before .before .before .before .before .before .before .before .before .before .before .before .before .before .before .before .before .before .before .before .before .before .args .plan in
-    let shape = c .before .before .before .before .before .before .before .before .before .before .before .before .before .before .before .before .before .before .before .before .before .before .before .reading .given .0 .0 in
-    let taken : readJob job ≡ Taken shape = sym (c .before .before .before .before .before .before .before .before .before .before .before .before .before .before .before .before .before .before .before .before .before .before .before .before .before .read-job .ensures) ∙ c .before .before .before .before .before .before .before .before .before .before .before .before .before .before .before .before .before .before .before .before .before .before .before .reading .given .1 in
-    let many : length (drawsOf job) ≡ shape .draws = draws-many job shape taken in
-    let ran = c .before .before .before .before .before .before .before .before .before .before .before .before .before .before .run-of in
-    let known : plan ≤ 3 = c .before .before .before .before .before .before .before .before .before .before .before .before .before .before .before .before .before .before .before .before .before .if1 .left in
-    let enough : head-size + event-size * length (drawsOf job) ≤ length room = omega (arith, c .before .before .before .before .before .before .before .before .before .before .before .before .before .before .before .before .before .before .before .if2 .left) in
-    let goes : planned job plan (length room) ≡ going _ =
-    planned-over job shape taken plan (length room) known enough (ran .result) _ _ _ _ (ran .ensures) (c .before .before .before .before .before .before .before .before .before .if3 .taken) in (
+    let w : tie.After-write-list = search in
+    let u = at-run-of w in
+    let p = at-reading u in
+    let r = at-read p in
+    let ran = u .run-of in
+    let goes : verdict r ≡ going _ =
+    planned-over (job r) (shape p) (taken p) (plan r) (length (room r)) (known u) (enough u) (ran .result) _ _ _ _ (ran .ensures) (over w) in (
       ap answerOf (sym goes),
-      c .before .before .write-list .ensures (ran .ensures .shown .beside .begun) (written job shape taken plan (ran .result) _ _ _ _ (ran .ensures))
-          ∙ ap (λ (x : Run). lent (writtenBy x) room) (sym goes),
+      w .write-list .ensures (ran .ensures .shown .beside .begun) (written (job r) (shape p) (taken p) (plan r) (ran .result) _ _ _ _ (ran .ensures))
+          ∙ ap (λ (x : Run). lent (writtenBy x) (room r)) (sym goes),
     )
 
 refusal-requires-3 : tie.Need-refusal-requires-3
@@ -148,18 +191,13 @@ refusal-requires-3 c κs = search needs
 
 returns-5 : tie.Need-returns-5
 returns-5 c =
-    let job : List ℕ = c .before .before .before .before .before .before .before .before .before .before .before .before .before .before .before .before .before .before .before .before .args .job .now in
-    let room : List ℕ = c .before .before .before .before .before .before .before .before .before .before .before .before .before .before .before .before .before .before .before .before .args .room .now in
-    let plan : ℕ = c .before .before .before .before .before .before .before .before .before .before .before .before .before .before .before .before .before .before .before .before .args .plan in
-    let shape = c .before .before .before .before .before .before .before .before .before .before .before .before .before .before .before .reading .given .0 .0 in
-    let taken : readJob job ≡ Taken shape = sym (c .before .before .before .before .before .before .before .before .before .before .before .before .before .before .before .before .before .read-job .ensures) ∙ c .before .before .before .before .before .before .before .before .before .before .before .before .before .before .before .reading .given .1 in
-    let many : length (drawsOf job) ≡ shape .draws = draws-many job shape taken in
-    let ran = c .before .before .before .before .before .before .run-of in
-    let known : plan ≤ 3 = c .before .before .before .before .before .before .before .before .before .before .before .before .before .if1 .left in
-    let enough : head-size + event-size * length (drawsOf job) ≤ length room = omega (arith, c .before .before .before .before .before .before .before .before .before .before .before .if2 .left) in
-    let halts : planned job plan (length room) ≡ refused 15 0 =
-    planned-late job shape taken plan (length room) known enough (ran .result) _ _ _ _ (ran .ensures) (c .before .if3 .left) in
-    (c .refusal3 .ensures ∙ ap answerOf (sym halts), untouched (planned job plan (length room)) 15 0 room halts)
+    let u : tie.After-run-of = search in
+    let p = at-reading u in
+    let r = at-read p in
+    let ran = u .run-of in
+    let late : ran .result .over ≡ false = search in
+    refuses r 15 _ (search)
+    (planned-late (job r) (shape p) (taken p) (plan r) (length (room r)) (known u) (enough u) (ran .result) _ _ _ _ (ran .ensures) late)
 
 pub plan-spec : {M : Type 1} → statement M
 plan-spec =

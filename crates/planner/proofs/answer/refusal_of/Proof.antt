@@ -16,10 +16,14 @@ refusal-requires-2 : tie.Need-refusal-requires-2
 refusal-requires-2 c κs = search needs
 
 returns : tie.Need-returns
-returns c = simp (c .before .enum-told .given .1) (c .refusal .ensures)
+returns c =
+    let told : tie.After-enum-told = search in
+    simp (told .enum-told .given .1) (c .refusal .ensures)
 
 returns-2 : tie.Need-returns-2
-returns-2 c = simp (c .before .before .reading .given .1) (c .refusal2 .ensures)
+returns-2 c =
+    let read : tie.After-reading = search in
+    simp (read .reading .given .1) (c .refusal2 .ensures)
 
 pub refusal-of-spec : {M : Type 1} → statement M
 refusal-of-spec = tie.close (tie.spec enum-told refusal-requires enum-known-reading refusal-requires-2 returns returns-2)

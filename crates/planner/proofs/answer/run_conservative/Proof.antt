@@ -1,8 +1,9 @@
 -- Opt's run is over in time, so its loads stand in the rows as the rules begin them.
 use Prim.Native.Nat.{ℕ, _≤_}
 use native.Mathlib.Omega.{arith}
+use mathlib.Core.List.{List}
 use mathlib.Core.Path.{_≡_, refl, sym, _∙_}
-use lib.ListN.{length, replicate, length-replicate}
+use lib.ListN.{length, take, replicate, length-replicate}
 use lib.Seq.{length-take-le}
 use borrow.Author.Needs.{needs}
 use Rattle.planner.proofs.Planning.{planned-few, planned-lists}
@@ -27,14 +28,57 @@ slice-aggregate-run-from-5 c = search needs
 slice-aggregate-run-from-6 : tie.Need-slice-aggregate-run-from-6
 slice-aggregate-run-from-6 c = search needs
 
+whole : length (replicate {A = ℕ} 4096 0) ≡ 4096
+whole = length-replicate {A = ℕ} 4096 0
+
 run-from-requires : tie.Need-run-from-requires
 run-from-requires c κs =
-    let room : length (replicate {A = ℕ} 4096 0) ≡ 4096 = length-replicate {A = ℕ} 4096 0 in (
-      c .before .before .before .before .before .before .before .before .before .before .before .before .before .pre .0,
-      c .before .before .before .before .before .before .before .before .before .before .before .before .before .pre .1,
+    let s : tie.Start = search in (
+      s .pre .0,
+      s .pre .1,
       record { even = record { slots-too = refl; symbols-too = refl }; orders = λ one. absurd (omega arith) },
-      record { ticks-room = c .before .before .before .before .before .before .before .before .before .before .before .before .before .pre .2 .ticks-room; draws-room = room; slots-room = room; symbols-room = room },
+      record { ticks-room = s .pre .2 .ticks-room; draws-room = whole; slots-room = whole; symbols-room = whole },
     )
+
+-- Opt has run: its loads stand at the front of the three rows.
+module _ (p : tie.After-run-from) where
+  abbrev at-start : tie.Start
+  at-start = search
+
+  abbrev loads : ℕ
+  loads = p .run-from .result .display .loads
+
+  abbrev misses : List ℕ
+  misses = p .run-from .last .1 .1 .1 .1 .1 .1 .1 .1 .0
+
+  abbrev into : List ℕ
+  into = p .run-from .last .1 .1 .1 .1 .1 .1 .1 .1 .1 .0
+
+  abbrev what : List ℕ
+  what = p .run-from .last .1 .1 .1 .1 .1 .1 .1 .1 .1 .1 .0
+
+  few : loads ≤ 4096
+  few =
+      planned-few (at-start .args .job .now) (at-start .args .shape) (at-start .pre .0) 2 (p .run-from .result) _ _ _ _
+      (p .run-from .ensures)
+
+  missed : length (take loads misses) ≡ loads
+  missed =
+      let room : length misses ≡ 4096 = p .run-from .kept .1 .1 .1 .1 .1 .1 .1 .1 .0 ∙ whole in
+      let most = few in
+      length-take-le loads misses (omega arith)
+
+  placed : length (take loads into) ≡ loads
+  placed =
+      let room : length into ≡ 4096 = p .run-from .kept .1 .1 .1 .1 .1 .1 .1 .1 .1 .0 ∙ whole in
+      let most = few in
+      length-take-le loads into (omega arith)
+
+  loaded : length (take loads what) ≡ loads
+  loaded =
+      let room : length what ≡ 4096 = p .run-from .kept .1 .1 .1 .1 .1 .1 .1 .1 .1 .1 .0 ∙ whole in
+      let most = few in
+      length-take-le loads what (omega arith)
 
 cast-count : tie.Need-cast-count
 cast-count c = search needs
@@ -44,51 +88,39 @@ array-share-prefix-misses c = search needs
 
 slice-aggregate-run-from-7 : tie.Need-slice-aggregate-run-from-7
 slice-aggregate-run-from-7 c =
-    let ran = c .before .before .before .before .before .before .before .before .run-from in
-    let few : ran .result .display .loads ≤ 4096 =
-    planned-few (c .before .before .before .before .before .before .before .before .before .before .before .before .before .before .before .before .before .before .before .before .before .before .args .job .now) (c .before .before .before .before .before .before .before .before .before .before .before .before .before .before .before .before .before .before .before .before .before .before .args .shape) (c .before .before .before .before .before .before .before .before .before .before .before .before .before .before .before .before .before .before .before .before .before .before .pre .0) 2 (ran .result) _ _ _ _ (ran .ensures) in
-    let room : length (ran .last .1 .1 .1 .1 .1 .1 .1 .1 .0) ≡ 4096 = ran .kept .1 .1 .1 .1 .1 .1 .1 .1 .0 ∙ length-replicate {A = ℕ} 4096 0 in
-    sym (length-take-le (ran .result .display .loads) (ran .last .1 .1 .1 .1 .1 .1 .1 .1 .0) (omega arith))
+    let p : tie.After-run-from = search in
+    sym (missed p)
 
 array-share-prefix-into : tie.Need-array-share-prefix-into
 array-share-prefix-into c = search needs
 
 slice-aggregate-run-from-8 : tie.Need-slice-aggregate-run-from-8
 slice-aggregate-run-from-8 c =
-    let ran = c .before .before .before .before .before .before .before .before .before .run-from in
-    let few : ran .result .display .loads ≤ 4096 =
-    planned-few (c .before .before .before .before .before .before .before .before .before .before .before .before .before .before .before .before .before .before .before .before .before .before .before .args .job .now) (c .before .before .before .before .before .before .before .before .before .before .before .before .before .before .before .before .before .before .before .before .before .before .before .args .shape) (c .before .before .before .before .before .before .before .before .before .before .before .before .before .before .before .before .before .before .before .before .before .before .before .pre .0) 2 (ran .result) _ _ _ _ (ran .ensures) in
-    let room : length (ran .last .1 .1 .1 .1 .1 .1 .1 .1 .1 .0) ≡ 4096 = ran .kept .1 .1 .1 .1 .1 .1 .1 .1 .1 .0 ∙ length-replicate {A = ℕ} 4096 0 in
-    sym (length-take-le (ran .result .display .loads) (ran .last .1 .1 .1 .1 .1 .1 .1 .1 .1 .0) (omega arith))
+    let p : tie.After-run-from = search in
+    sym (placed p)
 
 array-share-prefix-what : tie.Need-array-share-prefix-what
 array-share-prefix-what c = search needs
 
 slice-aggregate-run-from-9 : tie.Need-slice-aggregate-run-from-9
 slice-aggregate-run-from-9 c =
-    let ran = c .before .before .before .before .before .before .before .before .before .before .run-from in
-    let few : ran .result .display .loads ≤ 4096 =
-    planned-few (c .before .before .before .before .before .before .before .before .before .before .before .before .before .before .before .before .before .before .before .before .before .before .before .before .args .job .now) (c .before .before .before .before .before .before .before .before .before .before .before .before .before .before .before .before .before .before .before .before .before .before .before .before .args .shape) (c .before .before .before .before .before .before .before .before .before .before .before .before .before .before .before .before .before .before .before .before .before .before .before .before .pre .0) 2 (ran .result) _ _ _ _ (ran .ensures) in
-    let room : length (ran .last .1 .1 .1 .1 .1 .1 .1 .1 .1 .1 .0) ≡ 4096 = ran .kept .1 .1 .1 .1 .1 .1 .1 .1 .1 .1 .0 ∙ length-replicate {A = ℕ} 4096 0 in
-    sym (length-take-le (ran .result .display .loads) (ran .last .1 .1 .1 .1 .1 .1 .1 .1 .1 .1 .0) (omega arith))
+    let p : tie.After-run-from = search in
+    sym (loaded p)
+
+abbrev at-opt : tie.After-what3 → tie.After-run-from
+at-opt p = search
 
 run-from-requires-2 : tie.Need-run-from-requires-2
 run-from-requires-2 c κs =
-    let a = c .before .before .before .before .before .before .before .before .before .before .before .before .before .before .before .before .before .before .before .before .before .before .before .before .before .before .before .before .args in
-    let pre = c .before .before .before .before .before .before .before .before .before .before .before .before .before .before .before .before .before .before .before .before .before .before .before .before .before .before .before .before .pre in
-    let ran = c .before .before .before .before .before .before .before .before .before .before .before .before .before .before .run-from in
-    let few : ran .result .display .loads ≤ 4096 = planned-few (a .job .now) (a .shape) (pre .0) 2 (ran .result) _ _ _ _ (ran .ensures) in
-    let whole : length (replicate {A = ℕ} 4096 0) ≡ 4096 = length-replicate {A = ℕ} 4096 0 in
-    let draws′ : length (ran .last .1 .1 .1 .1 .1 .1 .1 .1 .0) ≡ 4096 = ran .kept .1 .1 .1 .1 .1 .1 .1 .1 .0 ∙ whole in
-    let slots′ : length (ran .last .1 .1 .1 .1 .1 .1 .1 .1 .1 .0) ≡ 4096 = ran .kept .1 .1 .1 .1 .1 .1 .1 .1 .1 .0 ∙ whole in
-    let symbols′ : length (ran .last .1 .1 .1 .1 .1 .1 .1 .1 .1 .1 .0) ≡ 4096 = ran .kept .1 .1 .1 .1 .1 .1 .1 .1 .1 .1 .0 ∙ whole in
-    let many = length-take-le (ran .result .display .loads) (ran .last .1 .1 .1 .1 .1 .1 .1 .1 .0) (omega arith) in
-    let slots-many = length-take-le (ran .result .display .loads) (ran .last .1 .1 .1 .1 .1 .1 .1 .1 .1 .0) (omega arith) in
-    let symbols-many = length-take-le (ran .result .display .loads) (ran .last .1 .1 .1 .1 .1 .1 .1 .1 .1 .1 .0) (omega arith) in (
+    let rows : tie.After-what3 = search in
+    let p = at-opt rows in
+    let a = at-start p .args in
+    let pre = at-start p .pre in
+    let ran = p .run-from in (
       pre .0,
       pre .1,
       record {
-        even = record { slots-too = slots-many ∙ sym many; symbols-too = symbols-many ∙ sym many };
+        even = record { slots-too = placed p ∙ sym (missed p); symbols-too = loaded p ∙ sym (missed p) };
         orders = λ one. planned-lists (a .job .now) (a .shape) (pre .0) 2 (ran .result) _ _ _ _ (ran .ensures);
       },
       record {

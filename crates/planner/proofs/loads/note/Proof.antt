@@ -16,8 +16,9 @@ enum-told c = search needs
 
 returns : tie.Need-returns
 returns c =
-    let a = c .before .before .args in
-    let none : a .begun ≡ NoLoad = c .enum-told .given .1 in (
+    let s : tie.Start = search in
+    let a = s .args in
+    let none : a .begun ≡ NoLoad = search in (
       noted-none (a .begun) (λ q x. a .tick) (a .at) (a .ticks .now) none,
       (
         noted-none (a .begun) (λ q x. a .draw) (a .at) (a .draws .now) none,
@@ -30,8 +31,9 @@ returns c =
 
 returns-2 : tie.Need-returns-2
 returns-2 c =
-    let a = c .before .before .before .before .args in
-    let pre = c .before .before .before .before .pre in
+    let s : tie.Start = search in
+    let a = s .args in
+    let pre = s .pre in
     let tick-room : length (a .ticks .now) ≡ 4096 = pre .ticks-room in
     let draw-room : length (a .draws .now) ≡ 4096 = pre .draws-room in
     let slot-room : length (a .slots .now) ≡ 4096 = pre .slots-room in
@@ -81,8 +83,10 @@ same-length-4 c = search needs
 
 returns-3 : tie.Need-returns-3
 returns-3 c =
-    let a = c .before .before .before .before .args in
-    let load = c .before .before .begun .given in (
+    let s : tie.Start = search in
+    let b : tie.After-begun = search in
+    let a = s .args in
+    let load = b .begun .given in (
       noted-one (a .begun) (λ q x. a .tick) (a .at) (a .ticks .now) (load .0 .0) (load .0 .1 .0) (load .1),
       (
         noted-one (a .begun) (λ q x. a .draw) (a .at) (a .draws .now) (load .0 .0) (load .0 .1 .0) (load .1),

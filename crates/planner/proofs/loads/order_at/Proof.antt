@@ -6,8 +6,9 @@ use Rattle.planner.proofs.loads.order_at.Tie as tie
 
 returns : tie.Need-returns
 returns c =
-    let a = c .before .args in
-    λ l s lists. order-none l s (a .at) (a .misses .now) (a .into .now) (a .what .now) lists (c .if1 .taken)
+    let begun : tie.Start = search in
+    let a = begun .args in
+    λ l s lists. order-none l s (a .at) (a .misses .now) (a .into .now) (a .what .now) lists search
 
 mul-t6 : tie.Need-mul-t6
 mul-t6 c = search needs
@@ -26,8 +27,9 @@ shared-slice-read-t14 c = search needs
 
 returns-2 : tie.Need-returns-2
 returns-2 c =
-    let a = c .before .before .before .before .args in
-    λ l s lists. order-there l s (a .at) (a .misses .now) (a .into .now) (a .what .now) lists (c .before .before .before .if1 .left)
+    let begun : tie.Start = search in
+    let a = begun .args in
+    λ l s lists. order-there l s (a .at) (a .misses .now) (a .into .now) (a .what .now) lists search
 
 pub order-at-spec : {M : Type 1} → statement M
 order-at-spec =

@@ -31,20 +31,26 @@ pass-requires c κs = search needs
 
 returns : tie.Need-returns
 returns c =
-    let a = c .before .before .args in
-    rested-none (Waits (a .d)) last-tick (a .happening) (a .d) (c .before .before .pre .0) (waits-none (a .d))
+    let s : tie.Start = search in
+    let a = s .args in
+    rested-none (Waits (a .d)) last-tick (a .happening) (a .d) (s .pre .0) (waits-none (a .d))
 
 returns-2 : tie.Need-returns-2
 returns-2 c =
-    let d = c .before .before .before .before .before .before .args .d in
-    let end : c .before .before .before-end .result ≡ d .until - 1 = c .before .before .before-end .ensures in
-    let fewer : c .before .smaller .result ≡ min (8388607 - d .tick) (c .before .before .before-end .result) = c .before .smaller .ensures in
-    let early : d .tick ≤ last-tick = c .before .before .before .before .before .before .pre .0 in
+    let s : tie.Start = search in
+    let waits : tie.After-enum-told2 = search in
+    let ends : tie.After-before-end = search in
+    let fewer : tie.After-smaller = search in
+    let d = s .args .d in
+    let n = fewer .smaller .result in
+    let end : ends .before-end .result ≡ d .until - 1 = ends .before-end .ensures in
+    let least : n ≡ min (8388607 - d .tick) (ends .before-end .result) = fewer .smaller .ensures in
+    let early : d .tick ≤ last-tick = s .pre .0 in
     record {
-      many = c .before .smaller .result;
+      many = n;
       passes = c .pass .ensures;
       in-time = omega arith;
-      behind = λ some. ap waiting (c .before .before .before .before .enum-told2 .given .1);
+      behind = λ some. ap waiting (waits .enum-told2 .given .1);
       still = record { before-end = λ ends. omega arith; under-way = λ some. omega arith };
     }
 

@@ -9,7 +9,7 @@ use lib.Dec.{leb}
 use lib.ListN.{length}
 use borrow.Author.Needs.{needs}
 use Rattle.rules.specs.Display.{Rule, going, refused}
-use Rattle.rules.specs.Job.{Job, shapeOf, drawsOf, jobOf}
+use Rattle.rules.specs.Job.{Job, shapeOf, jobOf}
 use Rattle.rules.specs.LoadList.{last-tick}
 use Rattle.rules.specs.Plans.{opt, runPlan, begunIn, ruleOf}
 use Rattle.rules.specs.Refusals.{inTime}
@@ -18,7 +18,11 @@ use Rattle.laws.proofs.Symbols.{length-symbols}
 use Rattle.display.specs.Tick.{Ticks}
 use Rattle.display.specs.View.{view, onward, Beside}
 use Rattle.display.specs.declared.state.Display.{Display}
-use Rattle.planner.proofs.Walks.{Walking, Held, before-all, walking-first, held-start, held-on, walking-on, calm, ends-over, ends-late, ends-refused, ruled}
+use Rattle.display.specs.declared.tick.Ticked.{Ticked}
+use Rattle.planner.specs.Loads.{Whole}
+use Rattle.planner.specs.Runs.{Limits, Given}
+use Rattle.planner.proofs.Walks.{Walking, Held, before-all, walking-first, held-start, held-on, walking-on, calm, ends-over, ends-late, ends-refused}
+use Rattle.planner.proofs.Walks.{ruled}
 use Rattle.planner.proofs.run.run_plan.Statement.{statement}
 use Rattle.planner.proofs.run.run_plan.Tie as tie
 
@@ -38,131 +42,225 @@ start-requires c κs = search needs
 
 loop-holds : tie.Need-loop-holds Inv-loop μ-loop
 loop-holds c =
-    let a = c .before .before .before .before .before .before .before .before .before .before .before .args in (
+    let s : tie.Start Inv-loop μ-loop = search in
+    let a = s .args in (
       refl,
       before-all (jobOf (a .job .now)),
-      walking-first (a .job .now) (ruleOf (jobOf (a .job .now)) (a .plan)) (a .held .now) (c .start .result) (c .before .before .before .before .before .before .before .before .before .before .before .pre .0 .starts) (c .start .ensures),
-      rw (c .start .ensures) (held-start (a .ticks .now) (a .draws .now) (a .slots .now) (a .symbols .now) (c .before .before .before .before .before .before .before .before .before .before .before .pre .1)),
+      walking-first (a .job .now) (ruleOf (jobOf (a .job .now)) (a .plan)) (a .held .now) (c .start .result) (s .pre .0 .starts) (c .start .ensures),
+      rw (c .start .ensures) (held-start (a .ticks .now) (a .draws .now) (a .slots .now) (a .symbols .now) (s .pre .1)),
     )
 
+-- A turn of the loop: the job, the plan's rule, and what the loop has kept.
+module _ (p : tie.At-loop Inv-loop μ-loop) where
+  abbrev at-start : tie.Start Inv-loop μ-loop
+  at-start = search
+
+  abbrev plan : ℕ
+  plan = at-start .args .plan
+
+  abbrev job : Job
+  job = jobOf (at-start .args .job .now)
+
+  abbrev rule : Rule
+  rule = ruleOf job plan
+
+  abbrev shape : Shape
+  shape = at-start .args .shape
+
+  abbrev d : Display
+  d = p .loop .d
+
+  abbrev beside : Beside
+  beside = p .loop .inv .1
+
+  limits : Limits (at-start .args .job .now) shape
+  limits = at-start .pre .0 .limits
+
+  given : Given plan (at-start .args .job .now) (at-start .args .misses .now) (at-start .args .into .now) (at-start .args .what .now)
+  given = at-start .pre .0 .given
+
+  many : length (job .draws) ≡ shape .draws
+  many =
+      length-symbols (shapeOf (at-start .args .job .now) .draws) _ ∙ ap (λ (s : Shape). s .draws) (sym (limits .shaped))
+
+  size : length (p .loop .held) ≡ shape .slots
+  size =
+      p .loop .inv .0 ∙ ap length (at-start .pre .0 .starts) ∙ length-symbols (shapeOf (at-start .args .job .now) .slots) _
+      ∙ ap (λ (s : Shape). s .slots) (sym (limits .shaped))
+
+  walking : Walking job rule (p .loop .held) d beside
+  walking = p .loop .inv .2
+
+  kept : Held (beside .begun) (d .loads) (p .loop .ticks) (p .loop .draws) (p .loop .slots) (p .loop .symbols)
+  kept = p .loop .inv .3
+
+  given-room : Whole (at-start .args .ticks .now) (at-start .args .draws .now) (at-start .args .slots .now) (at-start .args .symbols .now)
+  given-room = at-start .pre .1
+
 order-at-requires : tie.Need-order-at-requires Inv-loop μ-loop
-order-at-requires c κs = c .before .before .before .before .before .before .before .before .before .before .before .before .before .before .before .pre .0 .given .even
+order-at-requires c κs =
+    let p : tie.At-loop Inv-loop μ-loop = search in
+    given p .even
 
 plan-tick-requires : tie.Need-plan-tick-requires Inv-loop μ-loop
 plan-tick-requires c κs =
-    let a = c .before .before .before .before .before .before .before .before .before .before .before .before .before .before .before .before .before .args in
-    let ready = c .before .before .before .before .before .before .before .before .before .before .before .before .before .before .before .before .before .pre .0 in
-    let l = c .before .before .before .before .before .loop in
-    let g = l .inv .2 .along in
-    let time = g .in-time in
-    let few-waits : l .d .waits ≤ l .d .tick = g .waits in
-    let few-loads : l .d .loads ≤ l .d .tick = g .loads in
-    let within : l .d .next < a .shape .draws = c .before .before .before .if1 .left in
-    let most = ready .limits .few-draws in
-    let size : length (a .held .now) ≡ a .shape .slots =
-    ap length (ready .starts) ∙ length-symbols (shapeOf (a .job .now) .slots) _ ∙ ap (λ (s : Shape). s .slots) (sym (ready .limits .shaped)) in (
-      ready .limits,
-      ready .turned,
-      l .inv .0 ∙ size,
+    let p : tie.At-loop Inv-loop μ-loop = search in
+    let time = walking p .along .in-time in
+    let few-waits : d p .waits ≤ d p .tick = walking p .along .waits in
+    let few-loads : d p .loads ≤ d p .tick = walking p .along .loads in
+    let within : d p .next < shape p .draws = search in
+    let most = limits p .few-draws in (
+      limits p,
+      at-start p .pre .0 .turned,
+      size p,
       record { tick = omega arith; next = omega arith; waits = omega arith },
       omega arith,
       within,
     )
 
+-- A tick that a turn makes: a draw remains, the run is in time, and the tick goes by the plan's rule.
+module _ (p : tie.After-plan-tick Inv-loop μ-loop) where
+  abbrev at-loop : tie.At-loop Inv-loop μ-loop
+  at-loop = search
+
+  abbrev at-order : tie.After-order-at Inv-loop μ-loop
+  at-order = search
+
+  abbrev held′ : List ℕ
+  held′ = p .plan-tick .last .1 .1 .1 .1 .0
+
+  abbrev ticked : Ticked
+  ticked = p .plan-tick .result
+
+  within : d at-loop .next < length (job at-loop .draws)
+  within =
+      let remains : d at-loop .next < shape at-loop .draws = search in
+      let draws = many at-loop in
+      omega arith
+
+  early : d at-loop .tick < last-tick
+  early = search
+
+  ticks : Ticks (job at-loop) (rule at-loop) (at-loop .loop .held) held′ (d at-loop) ticked
+  ticks =
+      ruled (plan at-loop) (job at-loop) (at-order .order-at .result) (at-loop .loop .held) held′ (d at-loop) ticked
+      (λ one s. at-order .order-at .ensures (begunIn (runPlan (job at-loop) opt)) s (given at-loop .orders one)) (p .plan-tick .ensures)
+
 note-requires : tie.Need-note-requires Inv-loop μ-loop
-note-requires c κs = c .before .before .before .before .before .before .before .before .before .before .before .before .before .before .before .loop .inv .3 .whole
+note-requires c κs =
+    let t : tie.After-plan-tick Inv-loop μ-loop = search in
+    kept (at-loop t) .whole
+
+-- The tick is noted: it was not refused, so the display went on by one tick.
+module _ (p : tie.After-note Inv-loop μ-loop) where
+  abbrev at-tick : tie.After-plan-tick Inv-loop μ-loop
+  at-tick = search
+
+  went : ticked at-tick .number ≡ 0
+  went = search
+
+  one-more : ticked at-tick .display .tick ≡ d (at-loop at-tick) .tick + 1
+  one-more = at-tick .plan-tick .ensures .counts went .tick
+
+  waited : ticked at-tick .display .waits ≤ d (at-loop at-tick) .waits + 1
+  waited = at-tick .plan-tick .ensures .counts went .waits
+
+abbrev at-note : tie.After-later Inv-loop μ-loop → tie.After-note Inv-loop μ-loop
+at-note p = search
 
 rest-of-requires : tie.Need-rest-of-requires Inv-loop μ-loop
 rest-of-requires c κs =
-    let l = c .before .before .before .before .before .before .before .before .before .before .before .before .before .before .before .before .before .before .before .before .before .before .before .before .before .loop in
-    let went = c .before .before .before .before .before .before .before .before .before .before .before .before .before .before .before .before .before .before .before .plan-tick .ensures .counts (c .before .before .before .before .before .before .before .before .before .before .before .before .before .before .before .if3 .left) in
-    let one-more : c .before .before .before .before .before .before .before .before .before .before .before .before .before .before .before .before .before .before .before .plan-tick .result .display .tick ≡ l .d .tick + 1 = went .tick in
-    let waits′ : c .before .before .before .before .before .before .before .before .before .before .before .before .before .before .before .before .before .before .before .plan-tick .result .display .waits ≤ l .d .waits + 1 = went .waits in
-    let few : l .d .waits ≤ l .d .tick = l .inv .2 .along .waits in
+    let n = at-note c in
+    let p = at-loop (at-tick n) in
+    let soon = early (at-tick n) in
+    let more = one-more n in
+    let waits = waited n in
+    let few : d p .waits ≤ d p .tick = walking p .along .waits in
     (omega arith, omega arith)
 
 loop-less : tie.Need-loop-less Inv-loop μ-loop
 loop-less c =
-    let l = c .before .before .before .before .before .before .before .before .before .before .before .before .before .before .before .before .before .before .before .before .before .before .before .before .before .before .loop in
-    let went = c .before .before .before .before .before .before .before .before .before .before .before .before .before .before .before .before .before .before .before .before .plan-tick .ensures .counts (c .before .before .before .before .before .before .before .before .before .before .before .before .before .before .before .before .if3 .left) in
-    let one-more : c .before .before .before .before .before .before .before .before .before .before .before .before .before .before .before .before .before .before .before .before .plan-tick .result .display .tick ≡ l .d .tick + 1 = went .tick in
-    let further : c .rest-of .result .tick ≡ c .before .before .before .before .before .before .before .before .before .before .before .before .before .before .before .before .before .before .before .before .plan-tick .result .display .tick + c .rest-of .ensures .many =
+    let w : tie.After-later Inv-loop μ-loop = search in
+    let n = at-note w in
+    let soon = early (at-tick n) in
+    let more = one-more n in
+    let further : c .rest-of .result .tick ≡ ticked (at-tick n) .display .tick + c .rest-of .ensures .many =
     ap (λ (e : Display). e .tick) (c .rest-of .ensures .passes) in
     omega arith
 
 loop-again : tie.Need-loop-again Inv-loop μ-loop
 loop-again c =
-    let a = c .before .before .before .before .before .before .before .before .before .before .before .before .before .before .before .before .before .before .before .before .before .before .before .before .before .before .before .before .before .before .before .before .before .before .before .before .before .before .args in
-    let ready = c .before .before .before .before .before .before .before .before .before .before .before .before .before .before .before .before .before .before .before .before .before .before .before .before .before .before .before .before .before .before .before .before .before .before .before .before .before .before .pre .0 in
-    let l = c .before .before .before .before .before .before .before .before .before .before .before .before .before .before .before .before .before .before .before .before .before .before .before .before .before .before .loop in
-    let h = l .inv .1 in
-    let w = l .inv .2 in
-    let job : Job = jobOf (a .job .now) in
-    let r = c .before .before .before .before .before .before .before .before .before .before .before .before .before .before .before .before .before .before .before .before .plan-tick .result in
-    let held′ : List ℕ = c .before .before .before .before .before .before .before .before .before .before .before .before .before .before .before .before .before .before .before .before .plan-tick .last .1 .1 .1 .1 .0 in
-    let many : length (drawsOf (a .job .now)) ≡ a .shape .draws =
-    length-symbols (shapeOf (a .job .now) .draws) _ ∙ ap (λ (s : Shape). s .draws) (sym (ready .limits .shaped)) in
-    let ticks : Ticks job (ruleOf job (a .plan)) (l .held) held′ (l .d) r =
-    ruled (a .plan) job (c .before .before .before .before .before .before .before .before .before .before .before .before .before .before .before .before .before .before .before .before .before .before .order-at .result) (l .held) held′ (l .d) r
-    (λ one s. c .before .before .before .before .before .before .before .before .before .before .before .before .before .before .before .before .before .before .before .before .before .before .order-at .ensures (begunIn (runPlan job opt)) s (ready .given .orders one)) (c .before .before .before .before .before .before .before .before .before .before .before .before .before .before .before .before .before .before .before .before .plan-tick .ensures) in
-    let within : l .d .next < length (job .draws) = omega (arith, c .before .before .before .before .before .before .before .before .before .before .before .before .before .before .before .before .before .before .before .before .before .before .before .before .if1 .left, many) in
-    let early : l .d .tick < last-tick = omega (arith, c .before .before .before .before .before .before .before .before .before .before .before .before .before .before .before .before .before .before .before .before .before .before .before .if2 .left) in
-    let on : Walking job (ruleOf job (a .plan)) held′ (c .rest-of .result) (onward (l .d) (r .on_record) h) =
-    walking-on job (ruleOf job (a .plan)) (l .held) (l .d) h w within early held′ r ticks (c .before .before .before .before .before .before .before .before .before .before .before .before .before .before .before .before .if3 .left) (c .rest-of .result) (c .rest-of .ensures)
-    (calm (a .plan) job held′ (onward (l .d) (r .on_record) h) (r .display)) in
-    let now-noted = c .before .before .before .before .before .before .before .before .before .before .note .ensures in (
-      c .before .before .before .before .before .before .before .before .before .before .before .before .before .before .before .before .before .before .before .before .plan-tick .kept .1 .1 .1 .1 .0 ∙ l .inv .0,
+    let w : tie.After-later Inv-loop μ-loop = search in
+    let n = at-note w in
+    let t = at-tick n in
+    let p = at-loop t in
+    let l = p .loop in
+    let h = beside p in
+    let r = ticked t in
+    let on : Walking (job p) (rule p) (held′ t) (c .rest-of .result) (onward (l .d) (r .on_record) h) =
+    walking-on (job p) (rule p) (l .held) (l .d) h (walking p) (within t) (early t) (held′ t) r (ticks t) (went n) (c .rest-of .result)
+    (c .rest-of .ensures) (calm (plan p) (job p) (held′ t) (onward (l .d) (r .on_record) h) (r .display)) in
+    let noted = n .note .ensures in (
+      t .plan-tick .kept .1 .1 .1 .1 .0 ∙ l .inv .0,
       onward (l .d) (r .on_record) h,
       on,
-      held-on (l .d) (r .on_record) h (c .rest-of .result .loads) (l .ticks) (l .draws) (l .slots) (l .symbols) _ _ _ _ (w .listed) (on .listed)
-          (now-noted .0) (now-noted .1 .0) (now-noted .1 .1 .0) (now-noted .1 .1 .1) (l .inv .3),
+      held-on (l .d) (r .on_record) h (c .rest-of .result .loads) (l .ticks) (l .draws) (l .slots) (l .symbols) _ _ _ _ (walking p .listed)
+          (on .listed) (noted .0) (noted .1 .0) (noted .1 .1 .0) (noted .1 .1 .1) (kept p),
     )
 
 same-length : tie.Need-same-length Inv-loop μ-loop
 same-length c =
-    let l = c .before .before .before .before .loop in
+    let p : tie.At-loop Inv-loop μ-loop = search in
+    let j : tie.Joined1 Inv-loop μ-loop = search in
     ⊎-elim
-    (λ v. ap length (v .1) ∙ l .inv .0)
-    (λ v. ⊎-elim (λ v. ap length (v .2) ∙ l .inv .0) (λ v. ap length (v .9) ∙ v .4 .kept .1 .1 .1 .1 .0 ∙ l .inv .0) v)
-    (c .before .before .if1 .came)
+    (λ v. let same : j .if1 .held ≡ p .loop .held = search in ap length same ∙ p .loop .inv .0)
+    (λ v. ⊎-elim
+    (λ v. let same : j .if1 .held ≡ p .loop .held = search in ap length same ∙ p .loop .inv .0)
+    (λ v.
+    let t : tie.After-plan-tick Inv-loop μ-loop = search in
+    let same : j .if1 .held ≡ held′ t = search in
+    ap length same ∙ t .plan-tick .kept .1 .1 .1 .1 .0 ∙ p .loop .inv .0)
+    v)
+    (j .if1 .came)
 
 same-length-2 : tie.Need-same-length-2 Inv-loop μ-loop
-same-length-2 c = c .before .before .before .before .loop .inv .3 .whole .ticks-room ∙ sym (c .before .before .before .before .before .before .before .before .before .before .before .before .before .before .before .before .pre .1 .ticks-room)
+same-length-2 c =
+    let p : tie.At-loop Inv-loop μ-loop = search in
+    kept p .whole .ticks-room ∙ sym (given-room p .ticks-room)
 
 same-length-3 : tie.Need-same-length-3 Inv-loop μ-loop
-same-length-3 c = c .before .before .before .before .loop .inv .3 .whole .draws-room ∙ sym (c .before .before .before .before .before .before .before .before .before .before .before .before .before .before .before .before .pre .1 .draws-room)
+same-length-3 c =
+    let p : tie.At-loop Inv-loop μ-loop = search in
+    kept p .whole .draws-room ∙ sym (given-room p .draws-room)
 
 same-length-4 : tie.Need-same-length-4 Inv-loop μ-loop
-same-length-4 c = c .before .before .before .before .loop .inv .3 .whole .slots-room ∙ sym (c .before .before .before .before .before .before .before .before .before .before .before .before .before .before .before .before .pre .1 .slots-room)
+same-length-4 c =
+    let p : tie.At-loop Inv-loop μ-loop = search in
+    kept p .whole .slots-room ∙ sym (given-room p .slots-room)
 
 same-length-5 : tie.Need-same-length-5 Inv-loop μ-loop
-same-length-5 c = c .before .before .before .before .loop .inv .3 .whole .symbols-room ∙ sym (c .before .before .before .before .before .before .before .before .before .before .before .before .before .before .before .before .pre .1 .symbols-room)
+same-length-5 c =
+    let p : tie.At-loop Inv-loop μ-loop = search in
+    kept p .whole .symbols-room ∙ sym (given-room p .symbols-room)
 
 returns : tie.Need-returns Inv-loop μ-loop
 returns c =
-    let a = c .before .before .before .before .before .before .before .before .before .before .before .before .before .before .before .before .args in
-    let ready = c .before .before .before .before .before .before .before .before .before .before .before .before .before .before .before .before .pre .0 in
-    let l = c .before .before .before .before .loop in
-    let h = l .inv .1 in
-    let w = l .inv .2 in
-    let job : Job = jobOf (a .job .now) in
-    let rule : Rule = ruleOf job (a .plan) in
-    let many : length (drawsOf (a .job .now)) ≡ a .shape .draws =
-    length-symbols (shapeOf (a .job .now) .draws) _ ∙ ap (λ (s : Shape). s .draws) (sym (ready .limits .shaped)) in
-    let ended : inTime (runPlan job rule) ≡ cond (leb (length (job .draws)) (l .d .next)) (going (view (l .held) h (l .d))) (refused 15 0) =
+    let p : tie.At-loop Inv-loop μ-loop = search in
+    let j : tie.Joined1 Inv-loop μ-loop = search in
+    let l = p .loop in
+    let draws = many p in
+    let ended : inTime (runPlan (job p) (rule p))
+    ≡ cond (leb (length (job p .draws)) (l .d .next)) (going (view (l .held) (beside p) (l .d))) (refused 15 0) =
     ⊎-elim
-    (λ v. ends-over job rule (l .held) (l .d) h w (omega arith))
+    (λ v. ends-over (job p) (rule p) (l .held) (l .d) (beside p) (walking p) (omega arith))
     (λ v. ⊎-elim
-    (λ v. ends-late job rule (l .held) (l .d) h w (omega arith) (v .1 .taken))
+    (λ v. ends-late (job p) (rule p) (l .held) (l .d) (beside p) (walking p) (omega arith) search)
     (λ v.
-    let held′ : List ℕ = v .4 .last .1 .1 .1 .1 .0 in
-    ends-refused job rule (l .held) (l .d) h w (omega (arith, v .0 .left, many)) (omega (arith, v .1 .left)) held′ (v .4 .result)
-    (ruled (a .plan) job (v .2 .result) (l .held) held′ (l .d) (v .4 .result)
-    (λ one s. v .2 .ensures (begunIn (runPlan job opt)) s (ready .given .orders one)) (v .4 .ensures))
-    (v .8 .taken))
+    let t : tie.After-plan-tick Inv-loop μ-loop = search in
+    ends-refused (job p) (rule p) (l .held) (l .d) (beside p) (walking p) (within t) (early t) (held′ t) (ticked t) (ticks t) search)
     v)
-    (c .before .before .if1 .came) in
-    record { held = l .held; beside = h; ends = rw many at ended; noted = l .inv .3 .noted }
+    (j .if1 .came) in
+    record { held = l .held; beside = beside p; ends = rw draws at ended; noted = kept p .noted }
 
 pub run-plan-spec : {M : Type 1} → statement M
 run-plan-spec =
