@@ -1,22 +1,23 @@
 -- What is known of a check that was not refused.
 use Prim.Native.Nat.{ℕ, _≤_}
 use native.Mathlib.Omega.{arith}
-use mathlib.Core.Path.{_≡_, ap, _∙_}
+use mathlib.Core.Path.{_≡_, refl, sym, ap, _∙_}
 use mathlib.Core.Bool.{false}
 use mathlib.Core.List.{List, []}
 use lib.ListN.{length}
 use lib.Dec.{ltb}
-use borrow.Author.Tests.{ltb-false}
+use borrow.Author.Tests.{ltb-false, le-ltb}
 use Rattle.rules.specs.declared.JobReading.the-variants.{Taken}
-use Rattle.rules.specs.Order.{clear, firstOf}
+use Rattle.rules.specs.declared.Shape.{Shape}
+use Rattle.rules.specs.Order.{Verdict, clear, met, firstOf}
 use Rattle.rules.specs.Job.{Job, shapeOf, drawsOf, jobOf}
 use Rattle.rules.specs.LoadList.{Event, eventsOf}
-use Rattle.rules.specs.Display.{State, going, refused, start, run}
-use Rattle.rules.specs.Refusals.{jobTests, readJob, badList, unruly, follow, patience, closing, follows, checkTests, checked}
+use Rattle.rules.specs.Display.{State, going, refused, unless, start, run}
+use Rattle.rules.specs.Refusals.{jobTests, readJob, badList, shortCheck, unruly, follow, patience, closing, follows, checkTests, checked}
 use Rattle.laws.proofs.Cases.{by-test, neither}
-use Rattle.laws.proofs.Verdicts.{clear-of, clear-append, unless-going}
+use Rattle.laws.proofs.Verdicts.{clear-of, clear-append, unless-going, step, end, gives}
 use Rattle.laws.proofs.Moves.{then-going}
-use Rattle.laws.proofs.Jobs.{Proper, proper, clear-taken}
+use Rattle.laws.proofs.Jobs.{Proper, proper, clear-taken, past-job}
 use Rattle.laws.proofs.Along.{Ruly, unruly-within, AlongBetween, along, over-in-time}
 
 -- A check that is not refused: the job is taken, the list can be read, the lent room suffices, no event is out of order, and the run
@@ -52,6 +53,31 @@ followed job events p ordered s e =
     let all : length events ≤ s .loads = rw same at (ltb-false (last .loads) (length events) c) in
     (ran′, omega arith))
 
+-- A check is refused by the test that its order comes to, and past them all it is the run along the list.
+pub checked-met : (job list : List ℕ) (ticks slots n d : ℕ) → firstOf (checkTests job list ticks slots) ≡ met n d
+    → checked job list ticks slots ≡ refused n d
+unfolding checked
+checked-met job list ticks slots n d e = ap (λ (v : Verdict). unless v (follows (jobOf job) (eventsOf list))) e
+
+pub checked-past : (job list : List ℕ) (ticks slots : ℕ) → firstOf (checkTests job list ticks slots) ≡ clear
+    → checked job list ticks slots ≡ follows (jobOf job) (eventsOf list)
+unfolding checked
+checked-past job list ticks slots e = ap (λ (v : Verdict). unless v (follows (jobOf job) (eventsOf list))) e
+
+-- A job that is taken, a list that can be read, places enough and events in order: past all tests.
+pub checked-follows : (job list : List ℕ) (ticks slots : ℕ) (shape : Shape) → readJob job ≡ Taken shape → badList list ≡ false
+    → length (drawsOf job) ≤ ticks → length (drawsOf job) ≤ slots → Ruly 0 (eventsOf list)
+    → checked job list ticks slots ≡ follows (jobOf job) (eventsOf list)
+unfolding shortCheck
+checked-follows job list ticks slots shape taken good tick-room slot-room ordered =
+    checked-past job list ticks slots
+    (gives _ _
+    (past-job job (readJob job) shape refl taken
+    (step false (sym good) refl
+    (step false (rw (le-ltb ticks (length (drawsOf job)) tick-room, le-ltb slots (length (drawsOf job)) slot-room)) refl
+    (step false (rw (le-ltb (unruly 0 (eventsOf list)) (length (eventsOf list)) (omega arith))) refl
+    end)))))
+
 -- A check that comes to a state is past its tests, and then it is the run along the list that comes to it.
 past-tests : (job list : List ℕ) (ticks slots : ℕ) (s : State) → checked job list ticks slots ≡ going s
     → (firstOf (checkTests job list ticks slots) ≡ clear) × (follows (jobOf job) (eventsOf list) ≡ going s)
@@ -60,6 +86,7 @@ past-tests job list ticks slots s e = unless-going (firstOf (checkTests job list
 
 -- So it is an accepted one.
 pub accepted : (job list : List ℕ) (ticks slots : ℕ) (s : State) → checked job list ticks slots ≡ going s → Accepted job list ticks slots s
+unfolding jobTests shortCheck
 accepted job list ticks slots s e =
     let (past, f) = past-tests job list ticks slots s e in
     let fails = clear-of (checkTests job list ticks slots) past in

@@ -3,17 +3,18 @@ use Prim.Native.Nat.{ℕ, _+_, _*_, _-_, _≤_}
 use native.Mathlib.Omega.{arith}
 use mathlib.Core.Path.{_≡_, refl, sym, ap, _∙_}
 use mathlib.Core.Bool.{false}
-use mathlib.Core.List.{List}
+use mathlib.Core.List.{List, _++_}
 use lib.ListN.{length}
 use borrow.Author.Tests.{ltb-false, eqb-true, not-false}
+use Rattle.rules.specs.declared.JobReading.{JobReading}
 use Rattle.rules.specs.declared.JobReading.the-variants.{Taken, Refused}
 use Rattle.rules.specs.declared.Shape.{Shape}
 use Rattle.rules.specs.Basics.{stands, number32}
 use Rattle.rules.specs.Job.{Job, free, most-slots, most-time, most-draws, shapeOf, drawsOf, jobOf}
-use Rattle.rules.specs.Order.{Verdict, clear, met, firstOf}
-use Rattle.rules.specs.Refusals.{doubled, jobTests, readAs, readJob}
+use Rattle.rules.specs.Order.{Test, Verdict, clear, met, firstOf}
+use Rattle.rules.specs.Refusals.{doubled, jobTests, readAs, readJob, jobNumber}
 use Rattle.laws.proofs.Cases.{neither}
-use Rattle.laws.proofs.Verdicts.{testOf, clear-of, Each, met-by, Gives, gives}
+use Rattle.laws.proofs.Verdicts.{testOf, clear-of, Each, met-by, Gives, gives, walked, past, inside}
 use Rattle.laws.proofs.Symbols.{length-symbols}
 
 -- A job as the display may meet it.
@@ -54,7 +55,7 @@ clear-taken job e = ap (λ (v : Verdict). readAs v (shapeOf job)) e
 pub refused-met : (job : List ℕ) (n : ℕ) → readJob job ≡ Refused n → firstOf (jobTests job) ≡ met n 0
 refused-met job n e =
     let (d, is) = read-refused (firstOf (jobTests job)) (shapeOf job) n e in
-    let none : d ≡ 0 = met-by (λ m c. c ≡ 0) (jobTests job) n d (unfold Each in search) is in
+    let none : d ≡ 0 = met-by (λ m c. c ≡ 0) (jobTests job) n d (unfold Each jobTests in search) is in
     is ∙ ap (met n) none
 
 -- As code meets the tests: what it answers once they are walked is what the definition reads.
@@ -64,8 +65,19 @@ job-refused job n g = ap (λ (v : Verdict). readAs v (shapeOf job)) (sym (gives 
 pub job-taken : (job : List ℕ) (shape : Shape) → shape ≡ shapeOf job → Gives (jobTests job) clear → Taken shape ≡ readJob job
 job-taken job shape same g = ap Taken same ∙ ap (λ (v : Verdict). readAs v (shapeOf job)) (sym (gives _ _ g))
 
+-- Once code has read the job, the tests behind those of a job are left, or a number was met.
+pub past-job : (job : List ℕ) (reading : JobReading) (shape : Shape) {later : List Test} {v : Verdict} → reading ≡ readJob job
+    → reading ≡ Taken shape → Gives later v → Gives (jobTests job ++ later) v
+past-job job reading shape is taken g = past (walked (jobTests job) clear (taken-clear job shape (sym is ∙ taken))) g
+
+pub at-job : (job : List ℕ) (reading : JobReading) (n m : ℕ) (later : List Test) → reading ≡ readJob job → reading ≡ Refused n
+    → m ≡ jobNumber reading → Gives (jobTests job ++ later) (met m 0)
+at-job job reading n m later is stops number =
+    rw (number, stops) (inside later (walked (jobTests job) (met n 0) (refused-met job n (sym is ∙ stops))))
+
 -- A job that is taken is a proper one.
 pub proper : (job : List ℕ) (shape : Shape) → readJob job ≡ Taken shape → Proper (jobOf job)
+unfolding jobTests
 proper job shape e =
     let fails = taken-test job shape e in
     let (l₄, draws) = neither _ _ (fails 3) in
@@ -85,9 +97,14 @@ proper job shape e =
       drawable = drawable;
     }
 
+-- It has as many draws as its shape says.
+pub draws-many : (job : List ℕ) (shape : Shape) → readJob job ≡ Taken shape → length (drawsOf job) ≡ shape .draws
+draws-many job shape e = length-symbols (shapeOf job .draws) _ ∙ ap (λ (s : Shape). s .draws) (taken-shape job shape e)
+
 -- Its bytes are its head and two bytes to each symbol.
 pub job-size : (job : List ℕ) (shape : Shape) → readJob job ≡ Taken shape
     → length job ≡ 10 + 2 * shapeOf job .slots + 2 * shapeOf job .draws
+unfolding jobTests
 job-size job shape e =
     let fails = taken-test job shape e in
     let (short, ends) = neither _ _ (fails 1) in

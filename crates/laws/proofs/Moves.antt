@@ -16,10 +16,10 @@ use Rattle.rules.specs.declared.Happening.{Happening}
 use Rattle.rules.specs.declared.Happening.the-variants.{Wait}
 use Rattle.rules.specs.Basics.{place, stands}
 use Rattle.rules.specs.Job.{Job, free}
-use Rattle.rules.specs.Order.{clear, firstOf}
-use Rattle.rules.specs.Display.{State, Run, Rule, going, refused, land, begin, idle, loadTests, beginning, awaited, causeOf, happeningOf, draw, wait, stuck, moved, happened, then, tick, finished, run}
+use Rattle.rules.specs.Order.{Verdict, clear, met, firstOf, numberIn}
+use Rattle.rules.specs.Display.{State, Run, Rule, going, refused, land, begin, idle, loadTests, loadNumber, beginning, awaited, causeOf, happeningOf, draw, wait, stuck, moved, happened, then, tick, finished, run}
 use Rattle.laws.proofs.Cases.{by-test, neither}
-use Rattle.laws.proofs.Verdicts.{clear-of, unless-going, step, end, gives}
+use Rattle.laws.proofs.Verdicts.{clear-of, Each, met-by, unless-going, step, end, gives}
 
 -- What is known when a load begins, when a symbol is drawn, and when a tick is a wait.
 pub record Begins (job : Job) (rule : Rule) (q x : ℕ) (s : State) : Type 0 where
@@ -78,6 +78,22 @@ pub load-free : (job : Job) (q x : ℕ) (s : State) → idle (s .loading) ≡ tr
 load-free job q x s quiet slot symbol nowhere =
     gives (loadTests job q x s) clear
     (step false (rw quiet) refl (step false (rw (lt-ltb q (job .slots) slot)) refl (step false (rw (ne-eqb x free symbol, nowhere)) refl end)))
+
+-- The number of a load tells what it meets: with 0 no test, with any other the test of that number, and the detail is the event.
+pub load-clear : (job : Job) (q x : ℕ) (s : State) → loadNumber job q x s ≡ 0 → firstOf (loadTests job q x s) ≡ clear
+load-clear job q x s e = by-verdict (firstOf (loadTests job q x s)) refl e
+  where
+    by-verdict : (v : Verdict) → firstOf (loadTests job q x s) ≡ v → numberIn v ≡ 0 → v ≡ clear
+    by-verdict clear is none = refl
+    by-verdict (met n d) is none = absurd (met-by (λ m c. m ≡ 0 → ⊥) (loadTests job q x s) n d (unfold Each in search arith) is none)
+
+pub load-met : (job : Job) (q x : ℕ) (s : State) → (loadNumber job q x s ≡ 0 → ⊥)
+    → firstOf (loadTests job q x s) ≡ met (loadNumber job q x s) (s .loads)
+load-met job q x s some = by-verdict (firstOf (loadTests job q x s)) refl some
+  where
+    by-verdict : (v : Verdict) → firstOf (loadTests job q x s) ≡ v → (numberIn v ≡ 0 → ⊥) → v ≡ met (numberIn v) (s .loads)
+    by-verdict clear is some = absurd (some refl)
+    by-verdict (met n d) is some = ap (met n) (met-by (λ m c. c ≡ s .loads) (loadTests job q x s) n d (unfold Each in search) is)
 
 is-idle : (loading : Loading) → idle loading ≡ true → loading ≡ Idle
 is-idle Idle e = refl

@@ -149,3 +149,18 @@ unfolding firstOf
 gives tests v end = refl
 gives tests v (stop r is held) = rw (sym is ∙ held)
 gives tests v (step r is failed g) = rw (sym is ∙ failed) (gives _ v g)
+
+pub walked : (tests : List Test) (v : Verdict) → firstOf tests ≡ v → Gives tests v
+unfolding firstOf
+walked [] v e = rw (← e) end
+walked (test n d true ∷ later) v e = rw (← e) (stop true refl refl)
+walked (test n d false ∷ later) v e = step false refl refl (walked later v e)
+
+-- One order behind another: the walk goes on past the first, or stops in it.
+pub past : {tests others : List Test} {v : Verdict} → Gives tests clear → Gives others v → Gives (tests ++ others) v
+past end g = g
+past (step r is failed f) g = step r is failed (past f g)
+
+pub inside : {tests : List Test} {n d : ℕ} (others : List Test) → Gives tests (met n d) → Gives (tests ++ others) (met n d)
+inside others (stop r is held) = stop r is held
+inside others (step r is failed f) = step r is failed (inside others f)

@@ -51,7 +51,7 @@ abbrev pub badSymbols : List ℕ → List ℕ → Bool
 badSymbols starting draws = doubled starting || stands free draws
 
 -- The order for a job: 1 to 5 rising.
-abbrev pub jobTests : List ℕ → List Test
+unfoldable pub jobTests : List ℕ → List Test
 jobTests job =
     test 1 0 (badJobLength job)
     ∷ test 2 0 (badJobVersion job)
@@ -120,7 +120,7 @@ abbrev pub follows : Job → List Event → Run
 follows job events = then (run job (follow events) (patience job) (start job)) (closing events)
 
 -- 7. A check needs a place for each draw in both lent buffers.
-abbrev pub shortCheck : List ℕ → ℕ → ℕ → Bool
+unfoldable pub shortCheck : List ℕ → ℕ → ℕ → Bool
 shortCheck job ticks slots = ltb ticks (length (drawsOf job)) || ltb slots (length (drawsOf job))
 
 -- The order for a check before time begins: 1 to 5, then 8, 7, and 9 over the whole list, with the first event out of order.
@@ -135,13 +135,13 @@ checkTests job list ticks slots =
 
 -- Where none of these holds, 10 to 14 come as time meets them.
 unfoldable pub checked : List ℕ → List ℕ → ℕ → ℕ → Run
-unfolding firstOf
+unfolding firstOf jobTests shortCheck
 checked job list ticks slots = unless (firstOf (checkTests job list ticks slots)) (follows (jobOf job) (eventsOf list))
 
 -- ---- A plan: refusals 6, 7 and 15
 
 -- 7. A plan needs room for a head and an event to each draw.
-abbrev pub shortPlan : List ℕ → ℕ → Bool
+unfoldable pub shortPlan : List ℕ → ℕ → Bool
 shortPlan job room = ltb room (head-size + event-size * length (drawsOf job))
 
 -- 15. Elapsed would pass the last tick: the plan is not done by then, or it would wait for ever.
@@ -159,7 +159,7 @@ planTests job plan room =
 
 -- Where none of these holds, 15 is left.
 unfoldable pub planned : List ℕ → ℕ → ℕ → Run
-unfolding firstOf
+unfolding firstOf jobTests shortPlan
 planned job plan room = unless (firstOf (planTests job plan room)) (inTime (runPlan (jobOf job) (ruleOf (jobOf job) plan)))
 
 -- ---- The answer and lent memory
