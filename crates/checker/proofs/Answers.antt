@@ -16,8 +16,8 @@ use Rattle.rules.specs.declared.Shape.{Shape}
 use Rattle.rules.specs.Basics.{number32}
 use Rattle.rules.specs.Order.{Test, test, Verdict, clear, met}
 use Rattle.rules.specs.Job.{shapeOf, drawsOf, jobOf, most-slots, most-draws}
-use Rattle.rules.specs.LoadList.{Event, head-size, countOf, eventsOf, eventsIn}
-use Rattle.rules.specs.Display.{Run, refused}
+use Rattle.rules.specs.LoadList.{head-size, countOf, eventsOf, eventsIn}
+use Rattle.rules.specs.Display.{refused}
 use Rattle.rules.specs.Refusals.{readJob, badList, readList, shortCheck, unruly, follows, checkTests, checked, answerOf, ticksOf, slotsOf, lent}
 use Rattle.laws.proofs.Cases.{by-test, neither}
 use Rattle.laws.proofs.Verdicts.{Gives, stop, step, gives}

@@ -1,24 +1,24 @@
 -- The tests of a load as the code meets them.
 use Prim.Native.Nat.{ℕ, zero, suc}
-use mathlib.Core.Path.{_≡_, refl, sym, ap, _∙_}
-use mathlib.Core.Bool.{Bool, true, false, not}
-use mathlib.Core.List.{List}
+use native.Mathlib.Omega.{arith}
+use mathlib.Core.Path.{_≡_, refl, sym, ap}
+use mathlib.Core.Bool.{Bool, not}
 use lib.Dec.{eqb, ltb, leb}
 use borrow.Author.Tests.{ltb-true, ltb-false, lt-leb, le-leb, ne-eqb}
 use Rattle.rules.specs.declared.Begun.{Begun}
 use Rattle.rules.specs.declared.Begun.the-variants.{Load, NoLoad}
-use Rattle.rules.specs.Order.{Test, test, Verdict, clear, met, numberIn}
+use Rattle.rules.specs.Order.{clear, met, numberIn}
 use Rattle.rules.specs.Job.{Job}
 use Rattle.rules.specs.Display.{State, idle, loadable, loadTests}
 use Rattle.laws.proofs.Cases.{by-test}
-use Rattle.laws.proofs.Verdicts.{Gives, stop, step, gives}
+use Rattle.laws.proofs.Verdicts.{Gives, gives}
 use Rattle.display.specs.View.{loadingOf}
 use Rattle.display.specs.Tick.{numberOf}
 
 -- A load is under way where there are ticks until it ends.
 pub busy : (until q x : ℕ) → not (eqb until 0) ≡ not (idle (loadingOf until q x))
 busy zero q x = refl
-busy (suc left) q x = rw (ne-eqb (suc left) 0 (λ e. let z : _≡_ {A = ℕ} 0 1 = cc in absurd (omega native.Mathlib.Omega.arith)))
+busy (suc left) q x = rw (ne-eqb (suc left) 0 (λ e. omega arith))
 
 -- A number is not below another where the other is at most it.
 pub not-below : (a b : ℕ) → leb b a ≡ not (ltb a b)

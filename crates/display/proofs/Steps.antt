@@ -7,7 +7,7 @@ use mathlib.Core.Bool.{Bool, false, cond}
 use mathlib.Core.List.{List, [], _∷_, _++_}
 use lib.ListN.{getD, drop}
 use lib.Dec.{eqb}
-use borrow.Author.Tests.{eq-eqb, ne-eqb}
+use borrow.Author.Tests.{ne-eqb}
 use Rattle.rules.specs.declared.Begun.{Begun}
 use Rattle.rules.specs.declared.Begun.the-variants.{Load, NoLoad}
 use Rattle.rules.specs.declared.Happening.{Happening}

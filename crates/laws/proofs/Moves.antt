@@ -19,7 +19,7 @@ use Rattle.rules.specs.Job.{Job, free}
 use Rattle.rules.specs.Order.{Verdict, clear, met, firstOf, numberIn}
 use Rattle.rules.specs.Display.{State, Run, Rule, going, refused, land, begin, idle, loadTests, loadNumber, beginning, awaited, causeOf, happeningOf, draw, wait, stuck, moved, happened, then, tick, finished, run}
 use Rattle.laws.proofs.Cases.{by-test, neither}
-use Rattle.laws.proofs.Verdicts.{clear-of, Each, met-by, unless-going, step, end, gives}
+use Rattle.laws.proofs.Verdicts.{clear-of, Each, met-by, unless-going, unless-refused, step, end, gives}
 
 -- What is known when a load begins, when a symbol is drawn, and when a tick is a wait.
 pub record Begins (job : Job) (rule : Rule) (q x : ℕ) (s : State) : Type 0 where
@@ -51,6 +51,11 @@ pub beginning-going : (job : Job) (q x : ℕ) (s s′ : State) → beginning job
 unfolding beginning
 beginning-going job q x s s′ e =
     let (none, same) = unless-going (firstOf (loadTests job q x s)) (going (begin job q x s)) s′ e in (none, cc)
+
+-- One that is refused meets a test.
+pub beginning-refused : (job : Job) (q x n d : ℕ) (s : State) → beginning job (Load q x) s ≡ refused n d → firstOf (loadTests job q x s) ≡ met n d
+unfolding beginning
+beginning-refused job q x n d s e = unless-refused (firstOf (loadTests job q x s)) (begin job q x s) n d e
 
 -- What happens in a tick that is not refused is no endless wait.
 pub happened-going : (h : Happening) (d : Bool) (s s′ : State) → happened h d s ≡ going s′ → (stuck h d ≡ false) × (moved h s ≡ s′)

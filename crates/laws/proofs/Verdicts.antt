@@ -2,13 +2,13 @@
 -- moves only what speaks of its own number.
 use Prim.Native.Nat.{ℕ}
 use native.Mathlib.Omega.{arith}
-use mathlib.Core.Path.{_≡_, refl, sym, ap, _∙_}
+use mathlib.Core.Path.{_≡_, refl, sym, _∙_}
 use mathlib.Core.Bool.{Bool, true, false, cond, not, _||_}
 use mathlib.Core.List.{List, [], _∷_, _++_}
 use mathlib.Core.Logic.{_↔_}
 use lib.Dec.{eqb}
 use borrow.Author.Tests.{eqb-true, eq-eqb, not-true}
-use Rattle.rules.specs.Order.{Test, test, Verdict, clear, met, firstOf, numberIn}
+use Rattle.rules.specs.Order.{Test, test, Verdict, clear, met, firstOf}
 use Rattle.rules.specs.Display.{State, Run, going, refused, unless}
 use Rattle.laws.proofs.Cases.{by-test, neither}
 
@@ -134,6 +134,11 @@ unless-append tests others r = rw first-append (by-first (firstOf tests))
 pub unless-going : (v : Verdict) (r : Run) (s : State) → unless v r ≡ going s → (v ≡ clear) × (r ≡ going s)
 unless-going clear r s e = (refl, e)
 unless-going (met n d) r s e = let z : _≡_ {A = ℕ} 0 1 = cc in absurd (omega arith)
+
+-- One that is refused where it would go on has met a test.
+pub unless-refused : (v : Verdict) (s : State) (n d : ℕ) → unless v (going s) ≡ refused n d → v ≡ met n d
+unless-refused clear s n d e = let z : _≡_ {A = ℕ} 0 1 = cc in absurd (omega arith)
+unless-refused (met m c) s n d e = cc
 
 -- ---- As code meets an order
 

@@ -14,7 +14,7 @@ use Rattle.rules.specs.declared.Shape.{Shape}
 use Rattle.rules.specs.Order.{clear, met}
 use Rattle.rules.specs.Job.{symbols, shapeOf, drawsOf, draws-at, jobOf, most-slots, most-draws}
 use Rattle.rules.specs.LoadList.{head-size, event-size}
-use Rattle.rules.specs.Display.{State, Run, Loaded, going, refused, finished}
+use Rattle.rules.specs.Display.{State, Loaded, going, refused, finished}
 use Rattle.rules.specs.Plans.{runPlan, begunIn, ruleOf}
 use Rattle.rules.specs.Refusals.{readJob, shortPlan, inTime, planTests, planned, answerOf, writtenBy, lent}
 use Rattle.laws.proofs.Verdicts.{Gives, gives}

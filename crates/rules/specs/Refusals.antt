@@ -60,7 +60,7 @@ jobTests job =
     ∷ test 5 0 (badSymbols (startingOf job) (drawsOf job))
     ∷ []
 
--- A job is taken with its shape, or refused by the first of these tests that holds. None of them has a detail but 0.
+-- A job is taken with its shape, or refused with the number of the first of these tests that holds. The detail of each is 0.
 abbrev pub readAs : Verdict → Shape → JobReading
 readAs clear shape = Taken shape
 readAs (met number detail) shape = Refused number

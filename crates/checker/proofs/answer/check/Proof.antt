@@ -1,10 +1,9 @@
 -- `check` meets its contract: its tests are walked in the order of the definition, whatever that order is.
-use borrow.Author.Needs.{needs}
-use Rattle.laws.proofs.Verdicts.{Gives, end, stop, step}
 use lib.ListN.{length}
+use borrow.Author.Needs.{needs}
 use Rattle.rules.specs.Order.{clear}
 use Rattle.rules.specs.Refusals.{checkTests}
-use mathlib.Core.Path.{_≡_}
+use Rattle.laws.proofs.Verdicts.{Gives, end, stop, step}
 use Rattle.laws.proofs.Jobs.{at-job, past-job}
 use Rattle.checker.proofs.Answers.{at-list, past-list, is-sized, room-test, at-order, past-order, refuses, hands-out, roomy}
 use Rattle.checker.proofs.answer.check.Statement.{statement}
@@ -12,17 +11,20 @@ use Rattle.checker.proofs.answer.check.Tie as tie
 
 ruleset walk = (at-job, past-job, at-list, past-list, stop, step, end, room-test, at-order, past-order, is-sized, roomy)
 
--- The place behind the last test, and the places in front of it.
-abbrev before : tie.After-hand-out → tie.After-hand-out-arg
-before p = search
+-- Where the list is handed out all tests are walked. What lies behind that call is too much for a search, so it is walked in front of it.
+abbrev in-front : tie.After-hand-out → tie.After-hand-out-arg
+in-front p = search
 
-abbrev start : tie.After-hand-out-arg → tie.Start
-start p = search
+abbrev at-start : tie.After-hand-out-arg → tie.Start
+at-start p = search
 
-abbrev list : tie.After-hand-out-arg → tie.After-read-list
-list p = search
+abbrev at-list-read : tie.After-hand-out-arg → tie.After-read-list
+at-list-read p = search
 
-past-tests : (p : tie.After-hand-out-arg) → Gives (checkTests (start p .args .job .now) (start p .args .list .now) (length (start p .args .ticks .now)) (length (start p .args .slots .now))) clear
+past-tests : (p : tie.After-hand-out-arg)
+    → Gives
+    (checkTests (at-start p .args .job .now) (at-start p .args .list .now) (length (at-start p .args .ticks .now)) (length (at-start p .args .slots .now)))
+    clear
 past-tests p = search walk depth 20 fits 4000
 
 pub check-spec : {M : Type 1} → statement M
@@ -52,4 +54,4 @@ check-spec =
     (λ c. search needs)
     (λ c.
     let p : tie.After-hand-out = search in
-    hands-out _ _ _ _ _ (list (before p) .read-list .result) _ _ _ (search) (search) (p .hand-out .ensures) (past-tests (before p))))
+    hands-out _ _ _ _ _ (at-list-read (in-front p) .read-list .result) _ _ _ (search) (search) (p .hand-out .ensures) (past-tests (in-front p))))

@@ -1,5 +1,4 @@
 -- `held_or_none` meets its contract: the mark of a free slot is no symbol, and a symbol that is found is held.
-use mathlib.Core.Path.{ap}
 use borrow.Author.Needs.{needs}
 use borrow.Author.Tests.{eq-eqb, ne-eqb}
 use Rattle.display.proofs.tick.held_or_none.Statement.{statement}

@@ -1,5 +1,4 @@
 -- `plan` meets its contract: its tests are walked in the order of the definition, whatever that order is.
-use mathlib.Core.Path.{refl}
 use borrow.Author.Needs.{needs}
 use Rattle.rules.specs.Refusals.{jobNumber}
 use Rattle.laws.proofs.Verdicts.{end, stop, step}
