@@ -8,7 +8,9 @@ use rules::JobReading;
 use rules::ListReading;
 use rules::Shape;
 ghost use mathlib.Core.Path.{_≡_};
+ghost use mathlib.Core.Bool.{_||_};
 ghost use lib.ListN.{length, drop};
+ghost use lib.Dec.{ltb};
 ghost use Rattle.rules.specs.Job.{jobOf};
 ghost use Rattle.rules.specs.LoadList.{eventsIn, head-size};
 ghost use Rattle.rules.specs.Refusals.{checked, follows, answerOf, ticksOf, slotsOf, lent, jobNumber};
@@ -21,6 +23,16 @@ fn number_of(reading: JobReading) -> u32
         JobReading::Taken(_) => 0,
         JobReading::Refused(number) => number,
     }
+}
+
+// 7. There are fewer places than draws in the buffer for ticks or in the one for slots.
+fn short_room(draws: u16, ticks: usize, slots: usize) -> bool
+    ensures { λ r. ⌜ r ≡ (ltb ticks draws || ltb slots draws) ⌝ }
+{
+    if ticks < draws as usize {
+        return true;
+    }
+    slots < draws as usize
 }
 
 // The run of a list that is in order, with its draws handed out where it is accepted.
@@ -61,11 +73,7 @@ pub fn check(job: &[u8], list: &[u8], ticks: &mut [u32], slots: &mut [u8]) -> An
     let ListReading::Listed(count) = head else {
         return refusal(8, 0);
     };
-    let draws = shape.draws as usize;
-    if ticks.len() < draws {
-        return refusal(7, 0);
-    }
-    if slots.len() < draws {
+    if short_room(shape.draws, ticks.len(), slots.len()) {
         return refusal(7, 0);
     }
     let first = sheet::first_unruly(list, count);

@@ -8,15 +8,17 @@ use mathlib.Core.Logic.{_↔_, _⊎_, inl, inr}
 use lib.ListN.{length}
 use borrow.Author.Tests.{ltb-false}
 use Rattle.rules.specs.declared.JobReading.the-variants.{Taken}
+use Rattle.rules.specs.Order.{clear, firstOf}
 use Rattle.rules.specs.Job.{shapeOf, drawsOf, jobOf}
 use Rattle.rules.specs.LoadList.{head-size, event-size}
 use Rattle.rules.specs.Display.{State, Run, going, refused}
 use Rattle.rules.specs.Plans.{last-plan}
-use Rattle.rules.specs.Refusals.{readJob, checked, planned, answerOf, lent, ticksOf, slotsOf, tickBytes, writtenBy}
+use Rattle.rules.specs.Refusals.{jobTests, readJob, checked, shortPlan, planned, answerOf, lent, ticksOf, slotsOf, tickBytes, writtenBy}
 use Rattle.plan_laws.proofs.Plans.{plan-done, planned-done}
-use Rattle.laws.proofs.Jobs.{proper}
+use Rattle.laws.proofs.Verdicts.{clear-of, clear-append, unless-going}
+use Rattle.laws.proofs.Jobs.{proper, clear-taken}
 use Rattle.demands.specs.Table.{Gives, planRows, Given}
-use Rattle.demands.proofs.Tables.{Clear, none, passed, planTests, given-refuses, going-clear, gives-finds, finds-gives, plan-is-tests}
+use Rattle.demands.proofs.Tables.{lateTests, plan-is-tests, gives-met, met-gives}
 use Rattle.demands.proofs.Words.{plan-words}
 use Rattle.demands.proofs.Refusing.{Answers, refusal-is, answers-so, plan-found, check-given, given-check, never-late, plan-goes, check-goes}
 
@@ -26,10 +28,8 @@ use Rattle.demands.proofs.Refusing.{Answers, refusal-is, answers-so, pl
 pub plan-refusals : (job : List ℕ) (plan room n d : ℕ) → (n ≡ 0 → ⊥)
     → Answers (planned job plan room) n d ↔ Gives (planRows job plan room) n d
 plan-refusals job plan room n d some = (
-  λ a. finds-gives _ _ n d (plan-words job plan room) (plan-found job plan room n d (refusal-is (planned job plan room) n d some a)),
-  λ g.
-      answers-so (planned job plan room) n d
-      (plan-is-tests job plan room ∙ given-refuses (planTests job plan room) _ n d (gives-finds _ _ n d (plan-words job plan room) g)),
+  λ a. met-gives _ _ n d (plan-words job plan room) (plan-found job plan room n d (refusal-is (planned job plan room) n d some a)),
+  λ g. answers-so (planned job plan room) n d (plan-is-tests job plan room ∙ rw (gives-met _ _ n d (plan-words job plan room) g)),
 )
 
 -- A check answers a refusal's number and detail exactly when the table gives them: 1 to 5, 8, 7 and 9 at once, 10 to 13 as time meets
@@ -49,7 +49,7 @@ plan-always job plan room = by-run (planned job plan room) refl
   where
     by-run : (r : Run) → planned job plan room ≡ r → Answers r 0 0 ⊎ ((n d : ℕ) × Answers r n d × Gives (planRows job plan room) n d)
     by-run (going s) e = inl (refl, refl)
-    by-run (refused n d) e = inr (n, d, (refl, refl), finds-gives _ _ n d (plan-words job plan room) (plan-found job plan room n d e))
+    by-run (refused n d) e = inr (n, d, (refl, refl), met-gives _ _ n d (plan-words job plan room) (plan-found job plan room n d e))
 
 -- Every check answers: with number 0 and detail 0, or with what the table gives.
 pub check-always : (job list : List ℕ) (ticks slots : ℕ)
@@ -64,27 +64,29 @@ check-always job list ticks slots = by-run (checked job list ticks slots) refl
 -- Refusal 15 is never given: every plan of a job that is taken is over long before the last tick that a list can name.
 pub plan-never-late : (job : List ℕ) (plan room : ℕ) → answerOf (planned job plan room) .number ≡ 15 → ⊥
 plan-never-late job plan room e =
-    never-late job plan room 15 (answerOf (planned job plan room) .detail)
-    (plan-found job plan room 15 _ (refusal-is (planned job plan room) 15 _ (λ z. omega arith) (e, refl))) refl
+    never-late job plan room (answerOf (planned job plan room) .detail)
+    (plan-found job plan room 15 _ (refusal-is (planned job plan room) 15 _ (λ z. omega arith) (e, refl)))
 
 -- A plan answers 0 exactly when its job is accepted, its number is one of the four and room is lent.
 pub plan-accepts : (job : List ℕ) (plan room : ℕ)
     → (answerOf (planned job plan room) .number ≡ 0)
     ↔ ((readJob job ≡ Taken (shapeOf job)) × (plan ≤ last-plan) × (head-size + event-size * length (drawsOf job) ≤ room))
+unfolding jobTests shortPlan
 plan-accepts job plan room = (
   λ e.
       let (s, ran) = plan-goes job plan room e in
-      by-tests (going-clear (planTests job plan room) _ s (sym (plan-is-tests job plan room) ∙ ran) .0),
+      by-tests (unless-going (firstOf (lateTests job plan room)) _ s (sym (plan-is-tests job plan room) ∙ ran) .0),
   λ h.
       let (taken, known, enough) = h in
       let d = plan-done (jobOf job) (proper job _ taken) plan in
       rw (planned-done job (shapeOf job) plan room taken known enough d),
 )
   where
-    by-tests : Clear (planTests job plan room)
+    by-tests : firstOf (lateTests job plan room) ≡ clear
         → (readJob job ≡ Taken (shapeOf job)) × (plan ≤ last-plan) × (head-size + event-size * length (drawsOf job) ≤ room)
-    by-tests (passed e₁ (passed e₂ (passed e₃ (passed e₄ (passed e₅ (passed e₆ (passed e₇ (passed e₁₅ none)))))))) =
-        (rw (e₁, e₂, e₃, e₄, e₅), ltb-false _ _ e₆, ltb-false _ _ e₇)
+    by-tests past =
+        let fails = clear-of (lateTests job plan room) past in
+        (clear-taken job (clear-append (jobTests job) _ past .0), ltb-false _ _ (fails 6), ltb-false _ _ (fails 7))
 
 -- ---- A full answer, or a refusal and nothing else
 

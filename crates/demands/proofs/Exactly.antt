@@ -7,16 +7,17 @@ use mathlib.Core.List.{List, [], _∷_, map}
 use lib.ListN.{length, getD, take, drop, length-map, length-drop}
 use lib.Seq.{getD-at, getD-drop, take-all}
 use lib.Dec.{ltb, leb}
-use borrow.Author.Tests.{ltb-true, ltb-false, leb-true, le-ltb}
+use borrow.Author.Tests.{ltb-true, ltb-false, leb-true}
 use Rattle.rules.specs.declared.Answer.{Answer}
 use Rattle.rules.specs.declared.Begun.the-variants.{Load}
 use Rattle.rules.specs.declared.Loading.the-variants.{Idle}
 use Rattle.rules.specs.declared.ListReading.the-variants.{Listed, Unreadable}
 use Rattle.rules.specs.Basics.{stands}
-use Rattle.rules.specs.Job.{Job, drawsOf, jobOf}
+use Rattle.rules.specs.Job.{Job, jobOf}
 use Rattle.rules.specs.LoadList.{Event, event, countOf, eventsOf}
-use Rattle.rules.specs.Display.{State, Loaded, going, start, awaited, loadNumber, run}
-use Rattle.rules.specs.Refusals.{follow, due, eventOf, tickOf, slotOf, ticksOf, slotsOf, answerOf, unruly, patience, inOrder, readJob, jobNumber, readList, badList, checked}
+use Rattle.rules.specs.Order.{clear, firstOf}
+use Rattle.rules.specs.Display.{State, Loaded, going, start, idle, awaited, loadTests, run}
+use Rattle.rules.specs.Refusals.{follow, due, eventOf, tickOf, slotOf, ticksOf, slotsOf, answerOf, patience, follows, readList, badList, checked}
 use Rattle.laws.proofs.Cases.{by-test}
 use Rattle.laws.proofs.Rows.{Each, map-snoc, length-snoc}
 use Rattle.laws.proofs.Search.{absent}
@@ -26,7 +27,7 @@ use Rattle.laws.proofs.Jobs.{Proper, proper}
 use Rattle.laws.proofs.Sane.{SaneState, sane, idle-if-none, remaining}
 use Rattle.laws.proofs.Counts.{loadTick, ahead, Last, BusyBegun}
 use Rattle.laws.proofs.Along.{Ruly, ruly-first, AlongLanded, AlongBegun, AlongBetween, along, over-in-time}
-use Rattle.laws.proofs.Checks.{Accepted, accepted}
+use Rattle.laws.proofs.Checks.{Accepted, accepted, checked-follows}
 use Rattle.demands.specs.Held.{held, lastLoad, leaves, DrawnAt, from, Sheet}
 use Rattle.demands.specs.Fair.{eventTick, eventAt, MayBegin, Right}
 use Rattle.demands.proofs.Holding.{HoldingLanded, HoldingBegun, stays}
@@ -62,14 +63,14 @@ module _ (job : Job) (events : List Event) (end : ℕ) (may : (i : ℕ) → i < 
       omega arith)
 
   load-goes : (q x : ℕ) (s : State) → due (drop (s .loads) events) (s .tick) ≡ Load q x → HoldingLanded job events s
-      → loadNumber job q x s ≡ 0
+      → firstOf (loadTests job q x s) ≡ clear
   load-goes q x s asks g =
       let left : s .loads < length events = due-left events (s .loads) (s .tick) q x asks in
       let m : MayBegin job events (s .loads) end = may (s .loads) left in
       let is : eventAt events (s .loads) ≡ event (s .tick) q x = event-due events (s .loads) (s .tick) q x asks in
       let a : AlongLanded job events s = g .0 .1 in
       let row : length (s .slots) ≡ job .slots = g .0 .0 .0 .row in
-      load-free job q x s (quiet-then q x s asks g) (rw is at (m .slot)) (rw is at (m .symbol))
+      load-free job q x s (ap idle (quiet-then q x s asks g)) (rw is at (m .slot)) (rw is at (m .symbol))
       (absent x (s .slots)
       (λ r h e.
       let inside : r < job .slots = rw row at h in
@@ -169,11 +170,11 @@ module _ (job : Job) (events : List Event) (p : Proper job) (ordered : Ruly 0 ev
       absurd (omega arith))
       (λ e. e)
 
-  in-order-goes : (s : State) × (inOrder job events ≡ going s)
-  in-order-goes =
+  follows-goes : (s : State) × (follows job events ≡ going s)
+  follows-goes =
       let (s, ran) = runs (patience job) in
       let over : s .rest ≡ [] = over-in-time job events p ordered s ran in
-      (s, rw (le-ltb (unruly 0 events) (length events) (omega arith), ran, none-left (patience job) s ran over))
+      (s, rw (ran, none-left (patience job) s ran over))
 
 -- What an accepted check reports is right by the list alone.
 pub accepted-is-right : (job list : List ℕ) (tick-places slot-places : ℕ) (s : State) → checked job list tick-places slot-places ≡ going s
@@ -207,18 +208,11 @@ readable list e =
 -- Where a sheet is right by the list alone, the check accepts the list.
 pub right-is-accepted : (job list : List ℕ) (tick-places slot-places : ℕ) (ticks slots : List ℕ) (answer : Answer)
     → Right job list tick-places slot-places ticks slots answer → (s : State) × (checked job list tick-places slot-places ≡ going s)
-unfolding checked
 right-is-accepted job list tick-places slot-places ticks slots answer r =
     let p : Proper (jobOf job) = proper job _ (r .job-taken) in
-    let (s, e) = in-order-goes (jobOf job) (eventsOf list) p (r .in-order) ticks slots answer (r .sheet) (r .may-begin) in
-    let number : jobNumber (readJob job) ≡ 0 = ap jobNumber (r .job-taken) in (
+    let (s, e) = follows-goes (jobOf job) (eventsOf list) p (r .in-order) ticks slots answer (r .sheet) (r .may-begin) in (
       s,
-      rw (
-        number,
-        readable list (r .list-read),
-        le-ltb tick-places (length (drawsOf job)) (r .tick-room),
-        le-ltb slot-places (length (drawsOf job)) (r .slot-room),
-      ) e,
+      checked-follows job list tick-places slot-places _ (r .job-taken) (readable list (r .list-read)) (r .tick-room) (r .slot-room) (r .in-order) ∙ e,
     )
 
 -- And it reports that sheet.

@@ -1,5 +1,5 @@
 -- Plan and check against the table of refusals: what refuses them is what the table gives, and a number 0 is never a refusal's.
-use Prim.Native.Nat.{ℕ, _<_, _≤_}
+use Prim.Native.Nat.{ℕ, _<_}
 use native.Mathlib.Omega.{arith}
 use mathlib.Core.Path.{_≡_, refl, sym, ap, _∙_}
 use mathlib.Core.Bool.{true, false}
@@ -7,21 +7,24 @@ use mathlib.Core.List.{List}
 use mathlib.Core.Logic.{_⊎_, inl, inr}
 use lib.ListN.{length}
 use lib.Dec.{ltb}
-use borrow.Author.Tests.{ltb-true, ltb-false, lt-ltb}
+use borrow.Author.Tests.{ltb-true, lt-ltb}
 use Rattle.rules.specs.declared.JobReading.the-variants.{Taken}
+use Rattle.rules.specs.Order.{Verdict, clear, met, firstOf}
 use Rattle.rules.specs.Job.{Job, shapeOf, jobOf}
 use Rattle.rules.specs.LoadList.{Event, eventsOf}
-use Rattle.rules.specs.Display.{State, Run, going, refused, start, finished, run}
+use Rattle.rules.specs.Display.{State, Run, going, refused, unless, start, finished, run}
 use Rattle.rules.specs.Plans.{ruleOf, runPlan}
-use Rattle.rules.specs.Refusals.{readJob, unruly, follow, patience, closing, follows, checked, planned, answerOf}
+use Rattle.rules.specs.Refusals.{jobTests, readJob, follow, patience, closing, follows, checkTests, checked, planned, answerOf}
 use Rattle.laws.proofs.Cases.{by-test}
-use Rattle.laws.proofs.Jobs.{Proper, proper}
-use Rattle.laws.proofs.Along.{Ruly, unruly-within, over-in-time}
+use Rattle.laws.proofs.Verdicts.{clear-of, never-met, GivenBy, given-exactly, clear-append}
+use Rattle.laws.proofs.Jobs.{Proper, proper, clear-taken}
+use Rattle.laws.proofs.Along.{Ruly, over-in-time}
+use Rattle.laws.proofs.Checks.{in-order, checked-met, checked-past}
 use Rattle.plan_laws.proofs.Plans.{Any, plan-done}
 use Rattle.plan_laws.proofs.Keeping.{Done}
 use Rattle.demands.specs.Table.{Quiet, checkRows, Refuses, under-way, beyond, held, no-symbol, endless, Met, LeftOver, Given, at-once, in-time, at-the-end}
 use Rattle.demands.proofs.Stops.{going-is-not-refused, held-and-failed, then-refused, run-refused, refused-on-the-way, over-anyway, tick-refused, row-refuses}
-use Rattle.demands.proofs.Tables.{Finds, here, below, Clear, none, passed, late, planTests, checkTests, first-refused, given-refuses, clear-goes-on, numbered, given-number, gives-finds, finds-gives, quiet-clear, clear-quiet, plan-is-tests, check-is-tests}
+use Rattle.demands.proofs.Tables.{late, lateTests, plan-is-tests, gives-met, met-gives, quiet-clear, clear-quiet}
 use Rattle.demands.proofs.Words.{check-words}
 
 -- ---- What a number says of the run behind it
@@ -41,15 +44,16 @@ answers-so r n d e = rw e (refl, refl)
 
 -- ---- A plan
 
--- A plan is refused only as its tests find it.
-pub plan-found : (job : List ℕ) (plan room n d : ℕ) → planned job plan room ≡ refused n d → Finds (planTests job plan room) n d
-plan-found job plan room n d e =
-    by-table (first-refused (planTests job plan room) _ n d (sym (plan-is-tests job plan room) ∙ e))
+-- A plan is refused only as its tests come to it: past them all, that of row 15 too, its run is not refused.
+pub plan-found : (job : List ℕ) (plan room n d : ℕ) → planned job plan room ≡ refused n d → firstOf (lateTests job plan room) ≡ met n d
+unfolding jobTests
+plan-found job plan room n d e = by-verdict (firstOf (lateTests job plan room)) refl (sym (plan-is-tests job plan room) ∙ e)
   where
-    by-table : Finds (planTests job plan room) n d
-        ⊎ (Clear (planTests job plan room) × (runPlan (jobOf job) (ruleOf (jobOf job) plan) ≡ refused n d)) → Finds (planTests job plan room) n d
-    by-table (inl g) = g
-    by-table (inr (passed e₁ (passed e₂ (passed e₃ (passed e₄ (passed e₅ (passed e₆ (passed e₇ (passed in-limit none))))))), stops)) =
+    by-verdict : (v : Verdict) → firstOf (lateTests job plan room) ≡ v
+        → unless v (runPlan (jobOf job) (ruleOf (jobOf job) plan)) ≡ refused n d → v ≡ met n d
+    by-verdict (met m c) is stops = cc
+    by-verdict clear is stops =
+        let in-limit : late (runPlan (jobOf job) (ruleOf (jobOf job) plan)) ≡ false = clear-of (lateTests job plan room) is 15 in
         held-and-failed true refl (rw stops at in-limit)
 
 -- A plan of a job that is taken is over in time.
@@ -58,26 +62,21 @@ in-limit job plan taken =
     let d : Done (jobOf job) (ruleOf (jobOf job) plan) Any = plan-done (jobOf job) (proper job _ taken) plan in rw (d .ran, d .over)
 
 -- So the test of row 15 is never the first to hold.
-pub never-late : (job : List ℕ) (plan room n d : ℕ) → Finds (planTests job plan room) n d → n ≡ 15 → ⊥
-never-late job plan room n d (here e) z = omega arith
-never-late job plan room n d (below e₁ (here e)) z = omega arith
-never-late job plan room n d (below e₁ (below e₂ (here e))) z = omega arith
-never-late job plan room n d (below e₁ (below e₂ (below e₃ (here e)))) z = omega arith
-never-late job plan room n d (below e₁ (below e₂ (below e₃ (below e₄ (here e))))) z = omega arith
-never-late job plan room n d (below e₁ (below e₂ (below e₃ (below e₄ (below e₅ (here e)))))) z = omega arith
-never-late job plan room n d (below e₁ (below e₂ (below e₃ (below e₄ (below e₅ (below e₆ (here e))))))) z = omega arith
-never-late job plan room n d (below e₁ (below e₂ (below e₃ (below e₄ (below e₅ (below e₆ (below e₇ (here e)))))))) z =
-    held-and-failed _ e (in-limit job plan (rw (e₁, e₂, e₃, e₄, e₅)))
+pub never-late : (job : List ℕ) (plan room d : ℕ) → firstOf (lateTests job plan room) ≡ met 15 d → ⊥
+unfolding jobTests
+never-late job plan room d e =
+    let g : GivenBy (lateTests job plan room) 15 d = given-exactly (lateTests job plan room) 15 d refl .0 e in
+    let taken : readJob job ≡ Taken (shapeOf job) = clear-taken job (clear-append (jobTests job) _ (g .first) .0) in
+    held-and-failed _ (g .holds) (in-limit job plan taken)
 
 -- ---- A check
 
 -- A check whose tests before time begins all fail: its job is taken, and its events are in order.
-clear-so : (job list : List ℕ) (ticks slots : ℕ) → Clear (checkTests job list ticks slots)
+clear-so : (job list : List ℕ) (ticks slots : ℕ) → firstOf (checkTests job list ticks slots) ≡ clear
     → (readJob job ≡ Taken (shapeOf job)) × Ruly 0 (eventsOf list)
-clear-so job list ticks slots (passed e₁ (passed e₂ (passed e₃ (passed e₄ (passed e₅ (passed e₈ (passed e₇ (passed e₉ none)))))))) =
-    let at-least : length (eventsOf list) ≤ unruly 0 (eventsOf list) = ltb-false _ _ e₉ in
-    let at-most : unruly 0 (eventsOf list) ≤ length (eventsOf list) = unruly-within 0 (eventsOf list) in
-    (rw (e₁, e₂, e₃, e₄, e₅), omega arith)
+unfolding jobTests
+clear-so job list ticks slots e =
+    (clear-taken job (clear-append (jobTests job) _ e .0), in-order (eventsOf list) (clear-of (checkTests job list ticks slots) e 9))
 
 -- What time meets along a list, of a job that is taken and with the events in order.
 module _ (job : Job) (events : List Event) (good : Proper job) (ordered : Ruly 0 events) where
@@ -117,41 +116,41 @@ module _ (job : Job) (events : List Event) (good : Proper job) (ordered : Ruly 0
           inr (number, record { ticks = patience job; state = s; ran = ran; over = over-by-then s ran; left = rw (← detail) left; first = detail }))
           (λ t. going-is-not-refused s n d (rw t at closed))
 
+-- A check is its run along the list behind its tests.
+check-is-tests : (job list : List ℕ) (ticks slots : ℕ)
+    → checked job list ticks slots ≡ unless (firstOf (checkTests job list ticks slots)) (follows (jobOf job) (eventsOf list))
+unfolding checked
+check-is-tests job list ticks slots = refl
+
 -- A check is refused only as the table gives it,
 pub check-given : (job list : List ℕ) (ticks slots n d : ℕ) → checked job list ticks slots ≡ refused n d → Given job list ticks slots n d
-check-given job list ticks slots n d e =
-    by-table (first-refused (checkTests job list ticks slots) _ n d (sym (check-is-tests job list ticks slots) ∙ e))
+check-given job list ticks slots n d e = by-verdict (firstOf (checkTests job list ticks slots)) refl (sym (check-is-tests job list ticks slots) ∙ e)
   where
     by-time : Quiet (checkRows job list ticks slots)
         → Met (jobOf job) (eventsOf list) n d ⊎ ((n ≡ 14) × LeftOver (jobOf job) (eventsOf list) d) → Given job list ticks slots n d
     by-time q (inl m) = in-time q m
     by-time q (inr (is, l)) = rw is (at-the-end q l)
 
-    by-table : Finds (checkTests job list ticks slots) n d
-        ⊎ (Clear (checkTests job list ticks slots) × (follows (jobOf job) (eventsOf list) ≡ refused n d)) → Given job list ticks slots n d
-    by-table (inl g) = at-once (finds-gives _ _ n d (check-words job list ticks slots) g)
-    by-table (inr (c, stops)) =
-        let (taken, ordered) = clear-so job list ticks slots c in
-        by-time (clear-quiet _ _ (check-words job list ticks slots) c)
+    by-verdict : (v : Verdict) → firstOf (checkTests job list ticks slots) ≡ v
+        → unless v (follows (jobOf job) (eventsOf list)) ≡ refused n d → Given job list ticks slots n d
+    by-verdict (met m c) is stops = at-once (met-gives _ _ n d (check-words job list ticks slots) (is ∙ cc))
+    by-verdict clear is stops =
+        let (taken, ordered) = clear-so job list ticks slots is in
+        by-time (clear-quiet _ _ (check-words job list ticks slots) is)
         (refused-so (jobOf job) (eventsOf list) (proper job _ taken) ordered n d stops)
 
 -- and what the table gives refuses it.
 pub given-check : (job list : List ℕ) (ticks slots n d : ℕ) → Given job list ticks slots n d → checked job list ticks slots ≡ refused n d
 given-check job list ticks slots n d (at-once g) =
-    check-is-tests job list ticks slots
-    ∙ given-refuses (checkTests job list ticks slots) _ n d (gives-finds _ _ n d (check-words job list ticks slots) g)
+    checked-met job list ticks slots n d (gives-met _ _ n d (check-words job list ticks slots) g)
 given-check job list ticks slots n d (in-time q m) =
     let c = quiet-clear _ _ (check-words job list ticks slots) q in
     let (taken, ordered) = clear-so job list ticks slots c in
-    check-is-tests job list ticks slots
-    ∙ clear-goes-on (checkTests job list ticks slots) _ c
-    ∙ met-refuses (jobOf job) (eventsOf list) (proper job _ taken) ordered n d m
+    checked-past job list ticks slots c ∙ met-refuses (jobOf job) (eventsOf list) (proper job _ taken) ordered n d m
 given-check job list ticks slots n d (at-the-end q l) =
     let c = quiet-clear _ _ (check-words job list ticks slots) q in
     let (taken, ordered) = clear-so job list ticks slots c in
-    check-is-tests job list ticks slots
-    ∙ clear-goes-on (checkTests job list ticks slots) _ c
-    ∙ left-refuses (jobOf job) (eventsOf list) (proper job _ taken) ordered d l
+    checked-past job list ticks slots c ∙ left-refuses (jobOf job) (eventsOf list) (proper job _ taken) ordered d l
 
 -- ---- Number 0, and no number that the table does not have
 
@@ -165,8 +164,9 @@ refuses-number job events s n d (endless quiet unheld left) z = omega arith
 
 -- and no row of the whole table has.
 check-number : (job list : List ℕ) (ticks slots n d : ℕ) → Given job list ticks slots n d → n ≡ 0 → ⊥
-check-number job list ticks slots n d (at-once g) z = given-number (checkTests job list ticks slots) n d (unfold numbered in refl)
-    (gives-finds _ _ n d (check-words job list ticks slots) g) z
+unfolding jobTests
+check-number job list ticks slots n d (at-once g) z =
+    never-met (checkTests job list ticks slots) 0 d refl (gives-met _ _ n d (check-words job list ticks slots) g ∙ ap (λ (m : ℕ). met m d) z)
 check-number job list ticks slots n d (in-time q m) z = refuses-number (jobOf job) (eventsOf list) (m .state) n d (m .refuses) z
 check-number job list ticks slots n d (at-the-end q l) z = omega arith
 
@@ -175,11 +175,16 @@ goes : (r : Run) → ((n d : ℕ) → r ≡ refused n d → n ≡ 0 → ⊥) →
 goes (going s) refusal e = (s, refl)
 goes (refused n d) refusal e = absurd (refusal n d refl e)
 
+-- No test of a plan has the number 0.
+no-zero : (job : List ℕ) (plan room d : ℕ) → firstOf (lateTests job plan room) ≡ met 0 d → ⊥
+unfolding jobTests
+no-zero job plan room d e = never-met (lateTests job plan room) 0 d refl e
+
 -- A plan that answers 0 went to its last draw.
 pub plan-goes : (job : List ℕ) (plan room : ℕ) → answerOf (planned job plan room) .number ≡ 0 → (s : State) × (planned job plan room ≡ going s)
 plan-goes job plan room e =
     goes (planned job plan room)
-    (λ n d stops. given-number (planTests job plan room) n d (unfold numbered in refl) (plan-found job plan room n d stops)) e
+    (λ n d stops z. no-zero job plan room d (plan-found job plan room n d stops ∙ ap (λ (m : ℕ). met m d) z)) e
 
 -- A check that answers 0 went to its last draw.
 pub check-goes : (job list : List ℕ) (ticks slots : ℕ) → answerOf (checked job list ticks slots) .number ≡ 0

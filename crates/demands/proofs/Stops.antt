@@ -7,7 +7,7 @@ use mathlib.Core.List.{List}
 use mathlib.Core.Logic.{_⊎_, inl, inr}
 use lib.ListN.{length, drop, drop-of-length-le}
 use lib.Dec.{eqb, ltb, leb}
-use borrow.Author.Tests.{ltb-true, ltb-false, leb-true, leb-false, le-leb, lt-ltb, le-ltb, eqb-true, eq-eqb}
+use borrow.Author.Tests.{ltb-true, ltb-false, leb-true, leb-false, le-leb, lt-ltb, le-ltb, eqb-true, eq-eqb, not-true, not-false}
 use Rattle.rules.specs.declared.Begun.{Begun}
 use Rattle.rules.specs.declared.Begun.the-variants.{Load, NoLoad}
 use Rattle.rules.specs.declared.Loading.{Loading}
@@ -16,10 +16,11 @@ use Rattle.rules.specs.declared.Happening.the-variants.{Wait}
 use Rattle.rules.specs.Basics.{stands}
 use Rattle.rules.specs.Job.{Job, free}
 use Rattle.rules.specs.LoadList.{Event}
-use Rattle.rules.specs.Display.{State, Run, Rule, going, refused, start, land, idle, loadable, beginning, awaited, causeOf, happeningOf, stuck, happened, then, asked, tick, finished, run}
+use Rattle.rules.specs.Display.{State, Run, Rule, going, refused, start, land, idle, loadTests, beginning, awaited, causeOf, happeningOf, stuck, happened, then, asked, tick, finished, run}
 use Rattle.rules.specs.Refusals.{due, follow}
 use Rattle.laws.proofs.Cases.{by-test}
-use Rattle.laws.proofs.Moves.{beginning-going}
+use Rattle.laws.proofs.Verdicts.{clear-of, Each, met-by}
+use Rattle.laws.proofs.Moves.{beginning-going, beginning-refused}
 use Rattle.laws.proofs.Runs.{run-finished, run-unfinished, run-then, run-longer, on-the-way}
 use Rattle.demands.specs.Table.{Due, Refuses, under-way, beyond, held, no-symbol, endless}
 
@@ -115,26 +116,24 @@ happened-refused rule s n d e =
 module _ (job : Job) (events : List Event) (s : State) where
   -- A refusal of an event is row 10, 11 or 12, tested in this order.
   event-refused : (q x n d : ℕ) → Due events q x s → beginning job (Load q x) (land s) ≡ refused n d → Refuses job events s n d
-  unfolding beginning
+  unfolding Each
   event-refused q x n d asks e =
-      by-test (idle (land s .loading))
-      (λ i.
-      by-test (loadable job q)
-      (λ l.
-      by-test (eqb x free)
-      (λ f. given 12 (rw (i, l, f) at e) (no-symbol q x asks i (ltb-true q (job .slots) l) (eqb-true x free f)))
-      (λ f.
-      by-test (stands x (land s .slots))
-      (λ h. given 12 (rw (i, l, f, h) at e) (held q x asks i (ltb-true q (job .slots) l) h))
-      (λ h. going-is-not-refused _ n d (rw (i, l, f, h) at e))))
-      (λ l. given 11 (rw (i, l) at e) (beyond q x asks i (ltb-false q (job .slots) l))))
-      (λ i. given 10 (rw i at e) (under-way q x asks i))
-    where
-      given : (m : ℕ) → refused m (s .loads) ≡ refused n d → Refuses job events s m (s .loads) → Refuses job events s n d
-      given m same r =
-          let number : m ≡ n = cc in
-          let detail : s .loads ≡ d = cc in
-          rw (← number, ← detail) r
+      met-by (Refuses job events s) (loadTests job q x (land s)) n d (
+        λ front t. under-way q x asks (not-true _ t),
+        (
+          λ front t. beyond q x asks (not-false _ (clear-of _ front 10)) (ltb-false q (job .slots) (not-true _ t)),
+          (
+            λ front t.
+                let quiet : idle (land s .loading) ≡ true = not-false _ (clear-of _ front 10) in
+                let slot : q < job .slots = ltb-true q (job .slots) (not-false _ (clear-of _ front 11)) in
+                by-test (eqb x free)
+                (λ mark. no-symbol q x asks quiet slot (eqb-true x free mark))
+                (λ symbol. held q x asks quiet slot (rw symbol at t)),
+            tt,
+          ),
+        ),
+      )
+      (beginning-refused job q x n d (land s) e)
 
   -- Where nothing is refused at its beginning, a tick is refused only as row 13, and then no event begins in it.
   wait-refused : (b : Begun) (after : State) (n d : ℕ) → beginning job b (land s) ≡ going after

@@ -10,11 +10,12 @@ use lib.Dec.{eqb, ltb}
 use borrow.Author.Tests.{ltb-true, lt-ltb, ltb-false, eqb-false, ne-eqb, not-true, not-false}
 use Rattle.rules.specs.declared.Shape.{Shape}
 use Rattle.rules.specs.Basics.{place, stands, number32}
+use Rattle.rules.specs.Order.{Test}
 use Rattle.rules.specs.Job.{free, most-slots, most-time, most-draws, shapeOf, startingOf, drawsOf, jobOf}
 use Rattle.rules.specs.LoadList.{Event, event, most-events, last-tick, head-size, event-size, countOf, eventsOf}
 use Rattle.rules.specs.Display.{Run, going, refused, finished}
 use Rattle.rules.specs.Plans.{ruleOf, runPlan}
-use Rattle.rules.specs.Refusals.{badJobLength, badLimits, badSymbols, doubled, badList, unruly}
+use Rattle.rules.specs.Refusals.{badJobLength, badLimits, doubled, badSymbols, jobTests, badList, unruly, shortCheck, checkTests, shortPlan}
 use Rattle.laws.proofs.Cases.{by-test, neither}
 use Rattle.laws.proofs.Search.{place-holds, present}
 use Rattle.plan_laws.proofs.Asking.{both-true}
@@ -22,7 +23,7 @@ use Rattle.demands.specs.Fair.{eventTick, eventAt}
 use Rattle.demands.specs.Table as table
 use Rattle.demands.specs.Table.{Row, JobLengthWrong, OutsideLimits, no-slot, many-slots, no-time, long-time, many-draws, SymbolsWrong, twice, free-drawn, jobRows, Late, planRows, ListWrong, wrong-version, many-events, wrong-size, PlacesShort, few-ticks, few-slots, OutOfOrder, over-limit, not-above, FirstOutOfOrder, checkRows}
 use Rattle.demands.proofs.Stops.{held-and-failed}
-use Rattle.demands.proofs.Tables.{Test, Says, Agree, end, more, late, jobTests, planTests, checkTests}
+use Rattle.demands.proofs.Tables.{Says, Agree, end, more, late, lateTests}
 
 -- ---- Tests in general
 
@@ -309,6 +310,7 @@ unlike-words a b = plainly (not (eqb a b)) (λ h. held-and-failed (not (eqb a b)
 module _ (job : List ℕ) where
   -- Rows 1 to 5, and what comes behind them.
   with-job : (rows : List Row) (tests : List Test) → Agree rows tests → Agree (jobRows job ++ rows) (jobTests job ++ tests)
+  unfolding jobTests
   with-job rows tests a =
       more (length-words job)
       (more (unlike-words (getD job 4 0) 1)
@@ -317,7 +319,8 @@ module _ (job : List ℕ) where
       (more (symbols-words (startingOf job) (drawsOf job)) a))))
 
   -- The table for a plan is the tests of the definition.
-  pub plan-words : (plan room : ℕ) → Agree (planRows job plan room) (planTests job plan room)
+  pub plan-words : (plan room : ℕ) → Agree (planRows job plan room) (lateTests job plan room)
+  unfolding jobTests shortPlan
   plan-words plan room =
       with-job _ _
       (more (lower-words 3 plan)
@@ -326,6 +329,7 @@ module _ (job : List ℕ) where
 
   -- So is the table for a check, before time begins.
   pub check-words : (list : List ℕ) (ticks slots : ℕ) → Agree (checkRows job list ticks slots) (checkTests job list ticks slots)
+  unfolding shortCheck
   check-words list ticks slots =
       with-job _ _
       (more (list-words list)

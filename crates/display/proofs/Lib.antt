@@ -1,4 +1,5 @@
 pub mod Views
+pub mod Loads
 pub mod Ticks
 pub mod Landed
 pub mod Steps

@@ -7,7 +7,7 @@ use mathlib.Core.Bool.{Bool, false, cond}
 use mathlib.Core.List.{List, [], _∷_, _++_}
 use lib.ListN.{getD, drop}
 use lib.Dec.{eqb}
-use borrow.Author.Tests.{eq-eqb, ne-eqb}
+use borrow.Author.Tests.{ne-eqb}
 use Rattle.rules.specs.declared.Begun.{Begun}
 use Rattle.rules.specs.declared.Begun.the-variants.{Load, NoLoad}
 use Rattle.rules.specs.declared.Happening.{Happening}
@@ -15,8 +15,10 @@ use Rattle.rules.specs.declared.Happening.the-variants.{Draw, Wait}
 use Rattle.rules.specs.declared.TickRecord.{TickRecord}
 use Rattle.rules.specs.Basics.{stands}
 use Rattle.rules.specs.Job.{Job}
-use Rattle.rules.specs.Display.{State, Run, Rule, drawn, going, refused, then, land, begin, beginning, happeningOf, happened, recordOf, stuck, tick}
+use Rattle.rules.specs.Order.{Verdict}
+use Rattle.rules.specs.Display.{State, Run, Rule, drawn, going, refused, unless, then, land, begin, beginning, happeningOf, happened, recordOf, stuck, tick}
 use Rattle.laws.proofs.Cases.{by-test}
+use Rattle.laws.proofs.Moves.{load-clear, load-met}
 use Rattle.display.specs.declared.state.Display.{Display}
 use Rattle.display.specs.declared.tick.Ticked.{Ticked}
 use Rattle.display.specs.View.{Beside, view, awaiting, begunBy, besideBegun, besideMade, onward}
@@ -29,13 +31,13 @@ use Rattle.display.proofs.Landed.{landed-tick, landed-next, landed-wait
 beginning-goes : (job : Job) (asked : Begun) (s : State) → numberOf job asked s ≡ 0 → beginning job asked s ≡ going (begunBy job asked s)
 unfolding beginning
 beginning-goes job NoLoad s none = refl
-beginning-goes job (Load q x) s none = rw (eq-eqb _ 0 none)
+beginning-goes job (Load q x) s none = ap (λ (v : Verdict). unless v (going (begin job q x s))) (load-clear job q x s none)
 
 beginning-halts : (job : Job) (asked : Begun) (s : State) → (numberOf job asked s ≡ 0 → ⊥)
     → beginning job asked s ≡ refused (numberOf job asked s) (s .loads)
 unfolding beginning
 beginning-halts job NoLoad s some = absurd (some refl)
-beginning-halts job (Load q x) s some = rw (ne-eqb _ 0 some)
+beginning-halts job (Load q x) s some = ap (λ (v : Verdict). unless v (going (begin job q x s))) (load-met job q x s some)
 
 begun-tick : (job : Job) (asked : Begun) (s : State) → begunBy job asked s .tick ≡ s .tick
 begun-tick job NoLoad s = refl

@@ -9,11 +9,14 @@ use rules::Cause;
 use rules::Happening;
 use rules::TickRecord;
 ghost use mathlib.Core.Path.{_≡_};
+ghost use mathlib.Core.Bool.{not, _||_};
 ghost use mathlib.Core.List.{List};
 ghost use Prim.Native.Nat.{ℕ, _≤_};
 ghost use lib.ListN.{length};
-ghost use Rattle.rules.specs.Job.{Job};
-ghost use Rattle.rules.specs.Display.{causeOf, happeningOf, stuck, moved};
+ghost use lib.Dec.{eqb, ltb};
+ghost use Rattle.rules.specs.Basics.{stands};
+ghost use Rattle.rules.specs.Job.{Job, free};
+ghost use Rattle.rules.specs.Display.{idle, causeOf, happeningOf, stuck, moved};
 ghost use Rattle.display.specs.View.{Beside, view, loadingOf, awaiting, besideMade};
 ghost use Rattle.display.specs.Tick.{Room, Settled, numberOf};
 
@@ -25,23 +28,44 @@ pub struct Ticked {
     pub display: Display,
 }
 
-// The refusal that a load which is asked for meets, 10, 11 or 12; 0 where it meets none or none is asked for.
+// 10. A load is under way.
+fn under_way(d: Display) -> bool
+    ensures { λ r. ⌜ r ≡ not (idle (loadingOf (d .until) (d .into) (d .what))) ⌝ }
+{
+    d.until != 0
+}
+
+// 11. The slot is none of these.
+fn beyond(slots: &[u16], slot: u8) -> bool
+    ensures { λ r. ⌜ r ≡ not (ltb slot (length (now (slots .entry)))) ⌝ }
+{
+    slots.len() <= slot as usize
+}
+
+// 12. The symbol is no symbol, or a slot holds it.
+fn held_or_none(slots: &[u16], symbol: u16) -> bool
+    ensures { λ r. ⌜ r ≡ (eqb symbol free || stands symbol (now (slots .entry))) ⌝ }
+{
+    if symbol == FREE {
+        return true;
+    }
+    find(slots, symbol) < slots.len()
+}
+
+// The first refusal of 10 to 12 that a load which is asked for meets; 0 where it meets none or none is asked for.
 pub fn load_number(slots: &[u16], d: Display, asked: Begun) -> u32
     ensures { λ r. ⌜ ((h : Beside) (job : Job) → job .slots ≡ length (now (slots .entry)) → r ≡ numberOf job asked (view (now (slots .entry)) h d)) ⌝ }
 {
     let Begun::Load { slot, symbol } = asked else {
         return 0;
     };
-    if d.until != 0 {
+    if under_way(d) {
         return 10;
     }
-    if slots.len() <= slot as usize {
+    if beyond(slots, slot) {
         return 11;
     }
-    if symbol == FREE {
-        return 12;
-    }
-    if find(slots, symbol) < slots.len() {
+    if held_or_none(slots, symbol) {
         return 12;
     }
     0

@@ -2,20 +2,22 @@
 use Prim.Native.Nat.{ℕ, _+_, _-_, _/_, _≤_, min}
 use native.Mathlib.Omega.{arith}
 use mathlib.Core.Path.{_≡_, refl, sym, ap, _∙_}
-use mathlib.Core.Bool.{not}
 use mathlib.Core.List.{List, _++_, map, append-assoc}
 use lib.ListN.{length, take, drop, length-map, take-append-drop}
 use lib.Seq.{take-at, drop-append-le, length-take-le}
-use lib.Dec.{eqb, ltb}
+use lib.Dec.{ltb}
 use borrow.Author.Tests.{lt-ltb, le-ltb, ltb-true, ltb-false}
 use Rattle.rules.specs.declared.Answer.{Answer}
+use Rattle.rules.specs.declared.JobReading.the-variants.{Taken}
+use Rattle.rules.specs.Order.{Verdict, clear, met, firstOf}
 use Rattle.rules.specs.Job.{most-draws, shapeOf, drawsOf, jobOf}
 use Rattle.rules.specs.Display.{Run, going, refused}
 use Rattle.rules.specs.LoadList.{eventsOf}
-use Rattle.rules.specs.Refusals.{readJob, jobNumber, follow, patience, checked, checkedForC, answerOf, ticksOf, slotsOf, tickOf, tickBytes, lent}
+use Rattle.rules.specs.Refusals.{jobTests, readJob, follow, patience, checked, checkedForC, answerOf, ticksOf, slotsOf, tickOf, tickBytes, lent}
 use Rattle.laws.proofs.Cases.{by-test}
-use Rattle.laws.proofs.Jobs.{Proper, proper}
-use Rattle.laws.proofs.Checks.{taken, Accepted, accepted}
+use Rattle.laws.proofs.Verdicts.{gives, walked, inside}
+use Rattle.laws.proofs.Jobs.{Proper, proper, clear-taken}
+use Rattle.laws.proofs.Checks.{checked-met, Accepted, accepted}
 use Rattle.laws.proofs.Counts.{CountedState, counted, elapsed}
 
 same-test : (ticks n : ℕ) → n ≤ most-draws → ltb (min ticks most-draws) n ≡ ltb ticks n
@@ -25,13 +27,20 @@ same-test ticks n few =
     (λ t. let h = ltb-false ticks n t in rw t (le-ltb (min ticks most-draws) n (omega arith)))
 
 -- A check with places for more ticks than the largest job has draws answers as one with just as many.
-pub enough : (job list : List ℕ) (ticks slots : ℕ) → checked job list (min ticks most-draws) slots ≡ checked job list ticks slots
+enough-taken : (job list : List ℕ) (ticks slots : ℕ) → readJob job ≡ Taken (shapeOf job)
+    → checked job list (min ticks most-draws) slots ≡ checked job list ticks slots
 unfolding checked
-enough job list ticks slots =
-    by-test (not (eqb (jobNumber (readJob job)) 0)) (λ t. rw t)
-    (λ t.
-    let p : Proper (jobOf job) = proper job (shapeOf job) (taken job t) in
-    rw (same-test ticks (length (drawsOf job)) (p .few-draws)))
+enough-taken job list ticks slots taken = rw (same-test ticks (length (drawsOf job)) (proper job (shapeOf job) taken .few-draws))
+
+enough-refused : (job list : List ℕ) (ticks slots n d : ℕ) → firstOf (jobTests job) ≡ met n d → checked job list ticks slots ≡ refused n d
+enough-refused job list ticks slots n d e = checked-met job list ticks slots n d (gives _ _ (inside _ (walked (jobTests job) (met n d) e)))
+
+pub enough : (job list : List ℕ) (ticks slots : ℕ) → checked job list (min ticks most-draws) slots ≡ checked job list ticks slots
+enough job list ticks slots = by-job (firstOf (jobTests job)) refl
+  where
+    by-job : (v : Verdict) → firstOf (jobTests job) ≡ v → checked job list (min ticks most-draws) slots ≡ checked job list ticks slots
+    by-job clear e = enough-taken job list ticks slots (clear-taken job e)
+    by-job (met n d) e = enough-refused job list (min ticks most-draws) slots n d e ∙ sym (enough-refused job list ticks slots n d e)
 
 -- Of a check that is not refused a tick is noted for each draw, and elapsed is the draws and the waits; of a refused one all are 0.
 record Noted (places : ℕ) (run : Run) : Type 0 where

@@ -1,37 +1,24 @@
 -- What is known of a check that was not refused.
 use Prim.Native.Nat.{ℕ, _≤_}
 use native.Mathlib.Omega.{arith}
-use mathlib.Core.Path.{_≡_, ap, _∙_}
-use mathlib.Core.Bool.{true, false, not}
+use mathlib.Core.Path.{_≡_, refl, sym, ap, _∙_}
+use mathlib.Core.Bool.{false}
 use mathlib.Core.List.{List, []}
 use lib.ListN.{length}
-use lib.Dec.{eqb, ltb}
-use borrow.Author.Tests.{ltb-false}
+use lib.Dec.{ltb}
+use borrow.Author.Tests.{ltb-false, le-ltb}
 use Rattle.rules.specs.declared.JobReading.the-variants.{Taken}
-use Rattle.rules.specs.Job.{Job, shapeOf, startingOf, drawsOf, jobOf}
+use Rattle.rules.specs.declared.Shape.{Shape}
+use Rattle.rules.specs.Order.{Verdict, clear, met, firstOf}
+use Rattle.rules.specs.Job.{Job, shapeOf, drawsOf, jobOf}
 use Rattle.rules.specs.LoadList.{Event, eventsOf}
-use Rattle.rules.specs.Display.{State, going, refused, start, run}
-use Rattle.rules.specs.Refusals.{badJobLength, badJobVersion, badLimits, badJobSize, badSymbols, readJob, jobNumber, badList, shortCheck, unruly, follow, patience, closing, follows, inOrder, checked}
+use Rattle.rules.specs.Display.{State, going, refused, unless, start, run}
+use Rattle.rules.specs.Refusals.{jobTests, readJob, badList, shortCheck, unruly, follow, patience, closing, follows, checkTests, checked}
 use Rattle.laws.proofs.Cases.{by-test, neither}
+use Rattle.laws.proofs.Verdicts.{clear-of, clear-append, unless-going, step, end, gives}
 use Rattle.laws.proofs.Moves.{then-going}
-use Rattle.laws.proofs.Jobs.{Proper, proper}
+use Rattle.laws.proofs.Jobs.{Proper, proper, clear-taken, past-job}
 use Rattle.laws.proofs.Along.{Ruly, unruly-within, AlongBetween, along, over-in-time}
-
--- Only a job that is taken has no number.
-pub taken : (job : List ℕ) → not (eqb (jobNumber (readJob job)) 0) ≡ false → readJob job ≡ Taken (shapeOf job)
-taken job e =
-    by-test (badJobLength job) (λ t. never (rw t at e)) (λ t₁.
-    by-test (badJobVersion job) (λ t. never (rw (t₁, t) at e)) (λ t₂.
-    by-test (badLimits (shapeOf job)) (λ t. never (rw (t₁, t₂, t) at e)) (λ t₃.
-    by-test (badJobSize job) (λ t. never (rw (t₁, t₂, t₃, t) at e)) (λ t₄.
-    by-test (badSymbols (startingOf job) (drawsOf job)) (λ t. never (rw (t₁, t₂, t₃, t₄, t) at e)) (λ t₅.
-    rw (t₁, t₂, t₃, t₄, t₅))))))
-  where
-    never : {A : Type 0} → true ≡ false → A
-    never z = let w : _≡_ {A = ℕ} 0 1 = cc in absurd (omega arith)
-
-refused-is-not-going : {A : Type 0} (number detail : ℕ) (s : State) → refused number detail ≡ going s → A
-refused-is-not-going number detail s e = let z : _≡_ {A = ℕ} 0 1 = cc in absurd (omega arith)
 
 -- A check that is not refused: the job is taken, the list can be read, the lent room suffices, no event is out of order, and the run
 -- along the list is over with every event begun.
@@ -45,53 +32,76 @@ pub record Accepted (job list : List ℕ) (ticks slots : ℕ) (s : State) : Type
   pub over : s .rest ≡ []
   pub all-begun : s .loads ≡ length (eventsOf list)
 
--- A run along a list in order that is accepted.
-followed : (job : Job) (events : List Event) → Proper job → (s : State) → inOrder job events ≡ going s
-    → (Ruly 0 events) × (run job (follow events) (patience job) (start job) ≡ going s) × (s .loads ≡ length events)
-followed job events p s e =
-    by-test (ltb (unruly 0 events) (length events))
-    (λ t. refused-is-not-going 9 (unruly 0 events) s (rw t at e))
-    (λ t.
-    let ordered : Ruly 0 events =
-    let at-least : length events ≤ unruly 0 events = ltb-false _ _ t in
+-- Where no event is out of order the list is in order.
+pub in-order : (events : List Event) → ltb (unruly 0 events) (length events) ≡ false → Ruly 0 events
+in-order events e =
+    let at-least : length events ≤ unruly 0 events = ltb-false _ _ e in
     let at-most : unruly 0 events ≤ length events = unruly-within 0 events in
-    omega arith in
-    let g : follows job events ≡ going s = rw t at e in
-    let (last, ran, closed) = then-going (run job (follow events) (patience job) (start job)) (closing events) s g in
+    omega arith
+
+-- A run along a list in order that is accepted.
+followed : (job : Job) (events : List Event) → Proper job → Ruly 0 events → (s : State) → follows job events ≡ going s
+    → (run job (follow events) (patience job) (start job) ≡ going s) × (s .loads ≡ length events)
+followed job events p ordered s e =
+    let (last, ran, closed) = then-going (run job (follow events) (patience job) (start job)) (closing events) s e in
     by-test (ltb (last .loads) (length events))
-    (λ c. refused-is-not-going 14 (last .loads) s (rw c at closed))
+    (λ c. let g : refused 14 (last .loads) ≡ going s = rw c at closed in let z : _≡_ {A = ℕ} 0 1 = cc in absurd (omega arith))
     (λ c.
     let same : last ≡ s = let z : going last ≡ going s = rw c at closed in cc in
     let ran′ : run job (follow events) (patience job) (start job) ≡ going s = ran ∙ ap going same in
     let a : AlongBetween job events s = along job events p ordered (patience job) s ran′ in
     let all : length events ≤ s .loads = rw same at (ltb-false (last .loads) (length events) c) in
-    (ordered, ran′, omega arith)))
+    (ran′, omega arith))
 
--- A check that comes to a state is such a one.
-pub accepted : (job list : List ℕ) (ticks slots : ℕ) (s : State) → checked job list ticks slots ≡ going s → Accepted job list ticks slots s
+-- A check is refused by the test that its order comes to, and past them all it is the run along the list.
+pub checked-met : (job list : List ℕ) (ticks slots n d : ℕ) → firstOf (checkTests job list ticks slots) ≡ met n d
+    → checked job list ticks slots ≡ refused n d
 unfolding checked
+checked-met job list ticks slots n d e = ap (λ (v : Verdict). unless v (follows (jobOf job) (eventsOf list))) e
+
+pub checked-past : (job list : List ℕ) (ticks slots : ℕ) → firstOf (checkTests job list ticks slots) ≡ clear
+    → checked job list ticks slots ≡ follows (jobOf job) (eventsOf list)
+unfolding checked
+checked-past job list ticks slots e = ap (λ (v : Verdict). unless v (follows (jobOf job) (eventsOf list))) e
+
+-- A job that is taken, a list that can be read, places enough and events in order: past all tests.
+pub checked-follows : (job list : List ℕ) (ticks slots : ℕ) (shape : Shape) → readJob job ≡ Taken shape → badList list ≡ false
+    → length (drawsOf job) ≤ ticks → length (drawsOf job) ≤ slots → Ruly 0 (eventsOf list)
+    → checked job list ticks slots ≡ follows (jobOf job) (eventsOf list)
+unfolding shortCheck
+checked-follows job list ticks slots shape taken good tick-room slot-room ordered =
+    checked-past job list ticks slots
+    (gives _ _
+    (past-job job (readJob job) shape refl taken
+    (step false (sym good) refl
+    (step false (rw (le-ltb ticks (length (drawsOf job)) tick-room, le-ltb slots (length (drawsOf job)) slot-room)) refl
+    (step false (rw (le-ltb (unruly 0 (eventsOf list)) (length (eventsOf list)) (omega arith))) refl
+    end)))))
+
+-- A check that comes to a state is past its tests, and then it is the run along the list that comes to it.
+past-tests : (job list : List ℕ) (ticks slots : ℕ) (s : State) → checked job list ticks slots ≡ going s
+    → (firstOf (checkTests job list ticks slots) ≡ clear) × (follows (jobOf job) (eventsOf list) ≡ going s)
+unfolding checked
+past-tests job list ticks slots s e = unless-going (firstOf (checkTests job list ticks slots)) (follows (jobOf job) (eventsOf list)) s e
+
+-- So it is an accepted one.
+pub accepted : (job list : List ℕ) (ticks slots : ℕ) (s : State) → checked job list ticks slots ≡ going s → Accepted job list ticks slots s
+unfolding jobTests shortCheck
 accepted job list ticks slots s e =
-    by-test (not (eqb (jobNumber (readJob job)) 0))
-    (λ t. refused-is-not-going (jobNumber (readJob job)) 0 s (rw t at e))
-    (λ t₁.
-    by-test (badList list)
-    (λ t. refused-is-not-going 8 0 s (rw (t₁, t) at e))
-    (λ t₂.
-    by-test (shortCheck job ticks slots)
-    (λ t. refused-is-not-going 7 0 s (rw (t₁, t₂, t) at e))
-    (λ t₃.
-    let reading : readJob job ≡ Taken (shapeOf job) = taken job t₁ in
+    let (past, f) = past-tests job list ticks slots s e in
+    let fails = clear-of (checkTests job list ticks slots) past in
+    let reading : readJob job ≡ Taken (shapeOf job) = clear-taken job (clear-append (jobTests job) _ past .0) in
     let p : Proper (jobOf job) = proper job (shapeOf job) reading in
-    let f : inOrder (jobOf job) (eventsOf list) ≡ going s = rw (t₁, t₂, t₃) at e in
-    let (ordered, ran, all) = followed (jobOf job) (eventsOf list) p s f in
-    let (tick-room, slot-room) = neither _ _ t₃ in
+    let ordered : Ruly 0 (eventsOf list) = in-order (eventsOf list) (fails 9) in
+    let (ran, all) = followed (jobOf job) (eventsOf list) p ordered s f in
+    let (tick-room, slot-room) = neither _ _ (fails 7) in
     record {
       job-taken = reading;
-      list-read = t₂;
+      list-read = fails 8;
       tick-room = ltb-false _ _ tick-room;
       slot-room = ltb-false _ _ slot-room;
       ordered = ordered;
       ran = ran;
       over = over-in-time (jobOf job) (eventsOf list) p ordered s ran;
       all-begun = all;
-    })))
+    }

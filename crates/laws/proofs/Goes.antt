@@ -1,6 +1,6 @@
 -- When a run is not refused: every load that its rule asks for may begin, and no wait is an endless one.
 use Prim.Native.Nat.{ℕ, zero, suc, _<_}
-use mathlib.Core.Path.{_≡_, refl}
+use mathlib.Core.Path.{_≡_, refl, ap}
 use mathlib.Core.Bool.{Bool, false}
 use lib.ListN.{length}
 use lib.Dec.{eqb}
@@ -11,7 +11,8 @@ use Rattle.rules.specs.declared.Loading.the-variants.{Idle, Under}
 use Rattle.rules.specs.declared.Happening.the-variants.{Wait}
 use Rattle.rules.specs.Basics.{stands}
 use Rattle.rules.specs.Job.{Job}
-use Rattle.rules.specs.Display.{State, Rule, going, land, begin, loadNumber, beginning, awaited, causeOf, happeningOf, moved, stuck, happened, tick, finished, run}
+use Rattle.rules.specs.Order.{Verdict, clear, firstOf}
+use Rattle.rules.specs.Display.{State, Rule, going, land, begin, loadTests, unless, beginning, awaited, causeOf, happeningOf, moved, stuck, happened, tick, finished, run}
 use Rattle.laws.proofs.Cases.{by-test}
 use Rattle.laws.proofs.Moves.{Moves, begun-kept, tick-kept, is-more}
 
@@ -21,7 +22,7 @@ unstuck (Under left q y) x d hope = by-test (eqb x y) (λ e. rw e) (λ e. rw e)
 
 -- What the rule must see to: a load that it asks for is not refused, and with no load under way it lets no draw wait for nothing.
 pub record Goes (job : Job) (rule : Rule) (L B : State → Type 0) : Type 0 where
-  pub loads : (q x : ℕ) (s : State) → 0 < length (s .rest) → rule .asks s ≡ Load q x → L s → loadNumber job q x s ≡ 0
+  pub loads : (q x : ℕ) (s : State) → 0 < length (s .rest) → rule .asks s ≡ Load q x → L s → firstOf (loadTests job q x s) ≡ clear
   pub waits : (s : State) → 0 < length (s .rest) → stands (awaited s) (s .slots) ≡ false → s .loading ≡ Idle → B s → rule .done s ≡ false
 
 module _ (job : Job) (rule : Rule) (P L B : State → Type 0) (keeps : Moves job rule P L B)
@@ -29,7 +30,7 @@ module _ (job : Job) (rule : Rule) (P L B : State → Type 0) (keeps : Moves job
   begins-at-all : (b : Begun) (s : State) → rule .asks s ≡ b → 0 < length (s .rest) → L s → (s′ : State) × (beginning job b s ≡ going s′)
   unfolding beginning
   begins-at-all NoLoad s a more l = (s, refl)
-  begins-at-all (Load q x) s a more l = (begin job q x s, rw (goes .loads q x s more a l))
+  begins-at-all (Load q x) s a more l = (begin job q x s, ap (λ (v : Verdict). unless v (going (begin job q x s))) (goes .loads q x s more a l))
 
   happens-at-all : (s : State) → 0 < length (s .rest) → B s → (s′ : State) × (happened (happeningOf s) (rule .done s) s ≡ going s′)
   unfolding happened

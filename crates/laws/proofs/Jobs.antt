@@ -1,17 +1,20 @@
 -- What is known of a job that was not refused: its limits, the lengths of its two rows, and its symbols.
 use Prim.Native.Nat.{ℕ, _+_, _*_, _-_, _≤_}
 use native.Mathlib.Omega.{arith}
-use mathlib.Core.Path.{_≡_}
+use mathlib.Core.Path.{_≡_, refl, sym, ap, _∙_}
 use mathlib.Core.Bool.{false}
-use mathlib.Core.List.{List}
+use mathlib.Core.List.{List, _++_}
 use lib.ListN.{length}
 use borrow.Author.Tests.{ltb-false, eqb-true, not-false}
+use Rattle.rules.specs.declared.JobReading.{JobReading}
 use Rattle.rules.specs.declared.JobReading.the-variants.{Taken, Refused}
 use Rattle.rules.specs.declared.Shape.{Shape}
 use Rattle.rules.specs.Basics.{stands, number32}
-use Rattle.rules.specs.Job.{Job, free, most-slots, most-time, most-draws, shapeOf, startingOf, drawsOf, jobOf}
-use Rattle.rules.specs.Refusals.{badJobLength, badJobVersion, badLimits, badJobSize, badSymbols, doubled, readJob}
-use Rattle.laws.proofs.Cases.{by-test, neither}
+use Rattle.rules.specs.Job.{Job, free, most-slots, most-time, most-draws, shapeOf, drawsOf, jobOf}
+use Rattle.rules.specs.Order.{Test, Verdict, clear, met, firstOf}
+use Rattle.rules.specs.Refusals.{doubled, jobTests, readAs, readJob, jobNumber}
+use Rattle.laws.proofs.Cases.{neither}
+use Rattle.laws.proofs.Verdicts.{testOf, clear-of, Each, met-by, Gives, gives, walked, past, inside}
 use Rattle.laws.proofs.Symbols.{length-symbols}
 
 -- A job as the display may meet it.
@@ -25,38 +28,63 @@ pub record Proper (job : Job) : Type 0 where
   pub single : doubled (job .starting) ≡ false
   pub drawable : stands free (job .draws) ≡ false
 
-refused-is-not-taken : {A : Type 0} (n : ℕ) (shape : Shape) → Refused n ≡ Taken shape → A
-refused-is-not-taken n shape e = let z : _≡_ {A = ℕ} 0 1 = cc in absurd (omega arith)
+-- What a reading says of the tests behind it: a shape comes with no test met, a number with the test of that number.
+read-taken : (v : Verdict) (shape shape′ : Shape) → readAs v shape ≡ Taken shape′ → (v ≡ clear) × (shape ≡ shape′)
+read-taken clear shape shape′ e = (refl, cc)
+read-taken (met n d) shape shape′ e = let z : _≡_ {A = ℕ} 0 1 = cc in absurd (omega arith)
 
--- A job that is taken passed each of the five tests.
-pub record Passed (job : List ℕ) (shape : Shape) : Type 0 where
-  pub length-right : badJobLength job ≡ false
-  pub version-right : badJobVersion job ≡ false
-  pub limits-right : badLimits (shapeOf job) ≡ false
-  pub size-right : badJobSize job ≡ false
-  pub symbols-right : badSymbols (startingOf job) (drawsOf job) ≡ false
-  pub shape-read : shapeOf job ≡ shape
+read-refused : (v : Verdict) (shape : Shape) (n : ℕ) → readAs v shape ≡ Refused n → (d : ℕ) × (v ≡ met n d)
+read-refused clear shape n e = let z : _≡_ {A = ℕ} 0 1 = cc in absurd (omega arith)
+read-refused (met m d) shape n e = (d, cc)
 
--- The tests are told apart by the numbers of their refusals.
-pub passed : (job : List ℕ) (shape : Shape) → readJob job ≡ Taken shape → Passed job shape
-passed job shape e =
-    by-test (badJobLength job) (λ t. refused-is-not-taken 1 shape (rw t at e)) (λ t₁.
-    by-test (badJobVersion job) (λ t. refused-is-not-taken 2 shape (rw (t₁, t) at e)) (λ t₂.
-    by-test (badLimits (shapeOf job)) (λ t. refused-is-not-taken 3 shape (rw (t₁, t₂, t) at e)) (λ t₃.
-    by-test (badJobSize job) (λ t. refused-is-not-taken 4 shape (rw (t₁, t₂, t₃, t) at e)) (λ t₄.
-    by-test (badSymbols (startingOf job) (drawsOf job)) (λ t. refused-is-not-taken 5 shape (rw (t₁, t₂, t₃, t₄, t) at e)) (λ t₅.
-    let same : Taken (shapeOf job) ≡ Taken shape = rw (t₁, t₂, t₃, t₄, t₅) at e in
-    record { length-right = t₁; version-right = t₂; limits-right = t₃; size-right = t₄; symbols-right = t₅; shape-read = cc })))))
+-- A job that is taken has the shape that was read, and each of its tests fails.
+pub taken-shape : (job : List ℕ) (shape : Shape) → readJob job ≡ Taken shape → shapeOf job ≡ shape
+taken-shape job shape e = read-taken (firstOf (jobTests job)) (shapeOf job) shape e .1
+
+pub taken-clear : (job : List ℕ) (shape : Shape) → readJob job ≡ Taken shape → firstOf (jobTests job) ≡ clear
+taken-clear job shape e = read-taken (firstOf (jobTests job)) (shapeOf job) shape e .0
+
+pub taken-test : (job : List ℕ) (shape : Shape) → readJob job ≡ Taken shape → (n : ℕ) → testOf n (jobTests job) ≡ false
+taken-test job shape e = clear-of (jobTests job) (taken-clear job shape e)
+
+-- The other way round, a job of which each test fails is taken.
+pub clear-taken : (job : List ℕ) → firstOf (jobTests job) ≡ clear → readJob job ≡ Taken (shapeOf job)
+clear-taken job e = ap (λ (v : Verdict). readAs v (shapeOf job)) e
+
+-- No refusal of a job has a detail.
+pub refused-met : (job : List ℕ) (n : ℕ) → readJob job ≡ Refused n → firstOf (jobTests job) ≡ met n 0
+refused-met job n e =
+    let (d, is) = read-refused (firstOf (jobTests job)) (shapeOf job) n e in
+    let none : d ≡ 0 = met-by (λ m c. c ≡ 0) (jobTests job) n d (unfold Each jobTests in search) is in
+    is ∙ ap (met n) none
+
+-- As code meets the tests: what it answers once they are walked is what the definition reads.
+pub job-refused : (job : List ℕ) (n : ℕ) → Gives (jobTests job) (met n 0) → Refused n ≡ readJob job
+job-refused job n g = ap (λ (v : Verdict). readAs v (shapeOf job)) (sym (gives _ _ g))
+
+pub job-taken : (job : List ℕ) (shape : Shape) → shape ≡ shapeOf job → Gives (jobTests job) clear → Taken shape ≡ readJob job
+job-taken job shape same g = ap Taken same ∙ ap (λ (v : Verdict). readAs v (shapeOf job)) (sym (gives _ _ g))
+
+-- Once code has read the job, the tests behind those of a job are left, or a number was met.
+pub past-job : (job : List ℕ) (reading : JobReading) (shape : Shape) {later : List Test} {v : Verdict} → reading ≡ readJob job
+    → reading ≡ Taken shape → Gives later v → Gives (jobTests job ++ later) v
+past-job job reading shape is taken g = past (walked (jobTests job) clear (taken-clear job shape (sym is ∙ taken))) g
+
+pub at-job : (job : List ℕ) (reading : JobReading) (n m : ℕ) (later : List Test) → reading ≡ readJob job → reading ≡ Refused n
+    → m ≡ jobNumber reading → Gives (jobTests job ++ later) (met m 0)
+at-job job reading n m later is stops number =
+    rw (number, stops) (inside later (walked (jobTests job) (met n 0) (refused-met job n (sym is ∙ stops))))
 
 -- A job that is taken is a proper one.
 pub proper : (job : List ℕ) (shape : Shape) → readJob job ≡ Taken shape → Proper (jobOf job)
+unfolding jobTests
 proper job shape e =
-    let p : Passed job shape = passed job shape e in
-    let (l₄, draws) = neither _ _ (p .limits-right) in
+    let fails = taken-test job shape e in
+    let (l₄, draws) = neither _ _ (fails 3) in
     let (l₃, time-high) = neither _ _ l₄ in
     let (l₂, time-low) = neither _ _ l₃ in
     let (slots-low, slots-high) = neither _ _ l₂ in
-    let (single, drawable) = neither _ _ (p .symbols-right) in
+    let (single, drawable) = neither _ _ (fails 5) in
     let many : length (drawsOf job) ≡ shapeOf job .draws = length-symbols (shapeOf job .draws) _ in
     record {
       some-slot = ltb-false _ _ slots-low;
@@ -69,13 +97,18 @@ proper job shape e =
       drawable = drawable;
     }
 
+-- It has as many draws as its shape says.
+pub draws-many : (job : List ℕ) (shape : Shape) → readJob job ≡ Taken shape → length (drawsOf job) ≡ shape .draws
+draws-many job shape e = length-symbols (shapeOf job .draws) _ ∙ ap (λ (s : Shape). s .draws) (taken-shape job shape e)
+
 -- Its bytes are its head and two bytes to each symbol.
 pub job-size : (job : List ℕ) (shape : Shape) → readJob job ≡ Taken shape
     → length job ≡ 10 + 2 * shapeOf job .slots + 2 * shapeOf job .draws
+unfolding jobTests
 job-size job shape e =
-    let p : Passed job shape = passed job shape e in
-    let (short, ends) = neither _ _ (p .length-right) in
+    let fails = taken-test job shape e in
+    let (short, ends) = neither _ _ (fails 1) in
     let least : 10 ≤ length job = ltb-false _ _ short in
     let stated : number32 job 0 ≡ length job - 4 = eqb-true _ _ (not-false _ ends) in
-    let needed : number32 job 0 ≡ 6 + 2 * shapeOf job .slots + 2 * shapeOf job .draws = eqb-true _ _ (not-false _ (p .size-right)) in
+    let needed : number32 job 0 ≡ 6 + 2 * shapeOf job .slots + 2 * shapeOf job .draws = eqb-true _ _ (not-false _ (fails 4)) in
     omega arith

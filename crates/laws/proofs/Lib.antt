@@ -1,4 +1,5 @@
 pub mod Cases
+pub mod Verdicts
 pub mod Symbols
 pub mod Parts
 pub mod Places

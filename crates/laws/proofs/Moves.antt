@@ -7,7 +7,7 @@ use mathlib.Core.Bool.{Bool, true, false}
 use mathlib.Core.List.{List, [], _∷_}
 use lib.ListN.{length}
 use lib.Dec.{eqb}
-use borrow.Author.Tests.{ltb-true, lt-ltb, eqb-true, eqb-false, ne-eqb}
+use borrow.Author.Tests.{ltb-true, lt-ltb, eqb-false, ne-eqb, not-false}
 use Rattle.rules.specs.declared.Begun.{Begun}
 use Rattle.rules.specs.declared.Begun.the-variants.{Load, NoLoad}
 use Rattle.rules.specs.declared.Loading.{Loading}
@@ -16,8 +16,10 @@ use Rattle.rules.specs.declared.Happening.{Happening}
 use Rattle.rules.specs.declared.Happening.the-variants.{Wait}
 use Rattle.rules.specs.Basics.{place, stands}
 use Rattle.rules.specs.Job.{Job, free}
-use Rattle.rules.specs.Display.{State, Run, Rule, going, refused, land, begin, idle, loadable, loadNumber, beginning, awaited, causeOf, happeningOf, draw, wait, stuck, moved, happened, then, tick, finished, run}
-use Rattle.laws.proofs.Cases.{by-test}
+use Rattle.rules.specs.Order.{Verdict, clear, met, firstOf, numberIn}
+use Rattle.rules.specs.Display.{State, Run, Rule, going, refused, land, begin, idle, loadTests, loadNumber, beginning, awaited, causeOf, happeningOf, draw, wait, stuck, moved, happened, then, tick, finished, run}
+use Rattle.laws.proofs.Cases.{by-test, neither}
+use Rattle.laws.proofs.Verdicts.{clear-of, Each, met-by, unless-going, unless-refused, step, end, gives}
 
 -- What is known when a load begins, when a symbol is drawn, and when a tick is a wait.
 pub record Begins (job : Job) (rule : Rule) (q x : ℕ) (s : State) : Type 0 where
@@ -45,12 +47,15 @@ then-going (refused number detail) f s′ e = let z : _≡_ {A = ℕ} 0 1 = cc i
 
 -- A load that is not refused begins.
 pub beginning-going : (job : Job) (q x : ℕ) (s s′ : State) → beginning job (Load q x) s ≡ going s′
-    → (loadNumber job q x s ≡ 0) × (begin job q x s ≡ s′)
+    → (firstOf (loadTests job q x s) ≡ clear) × (begin job q x s ≡ s′)
 unfolding beginning
 beginning-going job q x s s′ e =
-    by-test (eqb (loadNumber job q x s) 0)
-    (λ t. let g : going (begin job q x s) ≡ going s′ = rw t at e in (eqb-true _ _ t, cc))
-    (λ t. let g : refused (loadNumber job q x s) (s .loads) ≡ going s′ = rw t at e in let z : _≡_ {A = ℕ} 0 1 = cc in absurd (omega arith))
+    let (none, same) = unless-going (firstOf (loadTests job q x s)) (going (begin job q x s)) s′ e in (none, cc)
+
+-- One that is refused meets a test.
+pub beginning-refused : (job : Job) (q x n d : ℕ) (s : State) → beginning job (Load q x) s ≡ refused n d → firstOf (loadTests job q x s) ≡ met n d
+unfolding beginning
+beginning-refused job q x n d s e = unless-refused (firstOf (loadTests job q x s)) (begin job q x s) n d e
 
 -- What happens in a tick that is not refused is no endless wait.
 pub happened-going : (h : Happening) (d : Bool) (s s′ : State) → happened h d s ≡ going s′ → (stuck h d ≡ false) × (moved h s ≡ s′)
@@ -65,25 +70,35 @@ hopeful Idle x d e i = e
 hopeful (Under left q y) x d e i = let z : _≡_ {A = ℕ} 0 1 = cc in absurd (omega arith)
 
 -- A load that is not refused: none is under way, the slot is one of the job's, and the symbol is one that no slot holds.
-pub load-taken : (job : Job) (q x : ℕ) (s : State) → loadNumber job q x s ≡ 0
+pub load-taken : (job : Job) (q x : ℕ) (s : State) → firstOf (loadTests job q x s) ≡ clear
     → (idle (s .loading) ≡ true) × (q < job .slots) × (x ≡ free → ⊥) × (stands x (s .slots) ≡ false)
 load-taken job q x s e =
-    by-test (idle (s .loading))
-    (λ i. by-test (loadable job q)
-    (λ l. by-test (eqb x free)
-    (λ f. let z : _≡_ {A = ℕ} 12 0 = rw (i, l, f) at e in absurd (omega arith))
-    (λ f. by-test (stands x (s .slots))
-    (λ h. let z : _≡_ {A = ℕ} 12 0 = rw (i, l, f, h) at e in absurd (omega arith))
-    (λ h. (i, ltb-true _ _ l, eqb-false _ _ f, h))))
-    (λ l. let z : _≡_ {A = ℕ} 11 0 = rw (i, l) at e in absurd (omega arith)))
-    (λ i. let z : _≡_ {A = ℕ} 10 0 = rw i at e in absurd (omega arith))
+    let fails = clear-of (loadTests job q x s) e in
+    let (symbol, nowhere) = neither (eqb x free) (stands x (s .slots)) (fails 12) in
+    (not-false _ (fails 10), ltb-true _ _ (not-false _ (fails 11)), eqb-false _ _ symbol, nowhere)
 
 -- The other way round, such a load is not refused.
-pub load-free : (job : Job) (q x : ℕ) (s : State) → s .loading ≡ Idle → q < job .slots → (x ≡ free → ⊥) → stands x (s .slots) ≡ false
-    → loadNumber job q x s ≡ 0
+pub load-free : (job : Job) (q x : ℕ) (s : State) → idle (s .loading) ≡ true → q < job .slots → (x ≡ free → ⊥) → stands x (s .slots) ≡ false
+    → firstOf (loadTests job q x s) ≡ clear
 load-free job q x s quiet slot symbol nowhere =
-    let i : idle (s .loading) ≡ true = ap idle quiet in
-    rw (i, lt-ltb q (job .slots) slot, ne-eqb x free symbol, nowhere)
+    gives (loadTests job q x s) clear
+    (step false (rw quiet) refl (step false (rw (lt-ltb q (job .slots) slot)) refl (step false (rw (ne-eqb x free symbol, nowhere)) refl end)))
+
+-- The number of a load tells what it meets: with 0 no test, with any other the test of that number, and the detail is the event.
+pub load-clear : (job : Job) (q x : ℕ) (s : State) → loadNumber job q x s ≡ 0 → firstOf (loadTests job q x s) ≡ clear
+load-clear job q x s e = by-verdict (firstOf (loadTests job q x s)) refl e
+  where
+    by-verdict : (v : Verdict) → firstOf (loadTests job q x s) ≡ v → numberIn v ≡ 0 → v ≡ clear
+    by-verdict clear is none = refl
+    by-verdict (met n d) is none = absurd (met-by (λ m c. m ≡ 0 → ⊥) (loadTests job q x s) n d (unfold Each in search arith) is none)
+
+pub load-met : (job : Job) (q x : ℕ) (s : State) → (loadNumber job q x s ≡ 0 → ⊥)
+    → firstOf (loadTests job q x s) ≡ met (loadNumber job q x s) (s .loads)
+load-met job q x s some = by-verdict (firstOf (loadTests job q x s)) refl some
+  where
+    by-verdict : (v : Verdict) → firstOf (loadTests job q x s) ≡ v → (numberIn v ≡ 0 → ⊥) → v ≡ met (numberIn v) (s .loads)
+    by-verdict clear is some = absurd (some refl)
+    by-verdict (met n d) is some = ap (met n) (met-by (λ m c. c ≡ s .loads) (loadTests job q x s) n d (unfold Each in search) is)
 
 is-idle : (loading : Loading) → idle loading ≡ true → loading ≡ Idle
 is-idle Idle e = refl
@@ -118,8 +133,8 @@ module _ (job : Job) (rule : Rule) (P L B A : State → Type 0) (keeps : Steps j
   begun-kept NoLoad s s′ a more h e =
       let same : s ≡ s′ = cc in subst (λ (z : State). (0 < length (z .rest)) × B z) same (more, keeps .passes s more a h)
   begun-kept (Load q x) s s′ a more h e =
-      let (zero-number, same) = beginning-going job q x s s′ e in
-      let (i, l, f, n) = load-taken job q x s zero-number in
+      let (none, same) = beginning-going job q x s s′ e in
+      let (i, l, f, n) = load-taken job q x s none in
       let facts : Begins job rule q x s =
       record { asks = a; more = more; quiet = is-idle (s .loading) i; slot = l; symbol = f; nowhere = n } in
       subst (λ (z : State). (0 < length (z .rest)) × B z) same (more, keeps .begins q x s facts h)

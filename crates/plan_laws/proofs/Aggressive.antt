@@ -13,14 +13,14 @@ use Rattle.rules.specs.Job.{Job, free}
 use Rattle.rules.specs.Display.{State, idle, awaited}
 use Rattle.rules.specs.Plans.{rank, missing, furthest, ahead, aggressive}
 use Rattle.laws.proofs.Cases.{by-test}
-use Rattle.laws.proofs.Moves.{Begins}
+use Rattle.laws.proofs.Moves.{Begins, load-free}
 use Rattle.laws.proofs.Jobs.{Proper}
 use Rattle.laws.proofs.Search.{absent-at}
 use Rattle.laws.proofs.Sane.{SaneState}
 use Rattle.plan_laws.proofs.Choice.{rank-place}
 use Rattle.plan_laws.proofs.States.{rest-drawable, chosen-slot}
 use Rattle.plan_laws.proofs.Asking.{asked-load, asked-none, both-true, other-false}
-use Rattle.plan_laws.proofs.Going.{Ready, load-permitted}
+use Rattle.plan_laws.proofs.Going.{Ready}
 use Rattle.plan_laws.proofs.Keeping.{Done, done}
 use Rattle.plan_laws.proofs.Rising.{Rising, rising-moves, rising-few, missing-most, missing-absent, missing-now, missing-later}
 
@@ -71,7 +71,7 @@ module _ (job : Job) (proper : Proper job) where
             let a : Asked s q x = asked s q x e in
             let drawable : stands free (s .rest) ≡ false = rest-drawable job (s .next) (s .rest) (s .slots) (s .loading) proper g in
             rw (← a .to, ← a .symbol)
-            (load-permitted job (chosen s) (getD (s .rest) (first s) 0) s (a .quiet) (chosen-slot job proper ahead s g)
+            (load-free job (chosen s) (getD (s .rest) (first s) 0) s (a .quiet) (chosen-slot job proper ahead s g)
             (absent-at free (s .rest) drawable (first s) (a .missed))
             (missing-absent (s .slots) (s .rest) (a .missed)));
         served = λ e quiet. by-test (stands (awaited s) (s .slots)) (λ t. t) (λ t. absurd (asks-at-miss s more quiet t e));

@@ -20,12 +20,13 @@ use Rattle.rules.specs.Plans.{earliest, conservative, opt, runPlan, begunIn, ru
 use Rattle.laws.proofs.Cases.{by-test}
 use Rattle.laws.proofs.Rows.{map-snoc}
 use Rattle.laws.proofs.Jobs.{Proper}
+use Rattle.laws.proofs.Moves.{load-free}
 use Rattle.laws.proofs.Sane.{SaneState, SaneMoves, settled, awaited-symbol}
 use Rattle.plan_laws.proofs.Choice.{drawn-symbol}
 use Rattle.plan_laws.proofs.Misses.{Miss, miss, misses, misses-over, misses-most, misses-drawn, misses-now, First, first}
 use Rattle.plan_laws.proofs.States.{rest-drawable, settled-landed, settled-holds}
 use Rattle.plan_laws.proofs.Asking.{asked-load, asked-none, both-true}
-use Rattle.plan_laws.proofs.Going.{Ready, load-permitted}
+use Rattle.plan_laws.proofs.Going.{Ready}
 use Rattle.plan_laws.proofs.Keeping.{Done, done, done-with}
 use Rattle.plan_laws.proofs.OptLoads.{missOf, missesOf, opt-loads}
 
@@ -107,7 +108,7 @@ module _ (job : Job) (proper : Proper job) (loads : List Loaded) (all : map miss
             let a : Asked (drop (s .loads) loads) s q x = asked (drop (s .loads) loads) s q x e in
             let f : First job (s .next) (s .slots) (s .rest) (a .m) q x (map missOf (a .later)) = first-asked s g h q x a in
             let drawable : stands free (s .rest) ≡ false = rest-drawable job (s .next) (s .rest) (s .slots) (s .loading) proper g in
-            load-permitted job q x s (a .quiet) (rw (g .row) at (f .below)) (drawn-symbol (s .rest) x drawable (f .drawn)) (f .absent);
+            load-free job q x s (a .quiet) (rw (g .row) at (f .below)) (drawn-symbol (s .rest) x drawable (f .drawn)) (f .absent);
         served = λ e quiet.
             by-test (stands (awaited s) (s .slots)) (λ t. t)
             (λ t.

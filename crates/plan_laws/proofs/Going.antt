@@ -1,26 +1,21 @@
 -- What keeps a tick from being refused: a load that the display takes, and a wait that will end.
-use Prim.Native.Nat.{ℕ, _<_}
+use Prim.Native.Nat.{ℕ}
 use native.Mathlib.Omega.{arith}
-use mathlib.Core.Path.{_≡_, refl, sym, _∙_}
+use mathlib.Core.Path.{_≡_, refl, sym, ap, _∙_}
 use mathlib.Core.Bool.{Bool, true, false, cond}
 use mathlib.Core.List.{List}
 use lib.Dec.{eqb}
-use borrow.Author.Tests.{lt-ltb, ne-eqb}
 use Rattle.rules.specs.declared.Begun.{Begun}
 use Rattle.rules.specs.declared.Begun.the-variants.{Load, NoLoad}
 use Rattle.rules.specs.declared.Loading.{Loading}
 use Rattle.rules.specs.declared.Loading.the-variants.{Idle, Under}
 use Rattle.rules.specs.declared.Happening.the-variants.{Draw, Wait}
 use Rattle.rules.specs.Basics.{place, stands}
-use Rattle.rules.specs.Job.{Job, free}
-use Rattle.rules.specs.Display.{State, going, land, begin, idle, loadNumber, beginning, awaited, causeOf, happeningOf, stuck, moved, happened, then, tick}
+use Rattle.rules.specs.Job.{Job}
+use Rattle.rules.specs.Order.{Verdict, clear, firstOf}
+use Rattle.rules.specs.Display.{State, going, unless, land, begin, loadTests, beginning, awaited, causeOf, happeningOf, stuck, moved, happened, then, tick}
 use Rattle.rules.specs.Plans.{asking}
 use Rattle.laws.proofs.Cases.{by-test}
-
--- A load that the display takes.
-pub load-permitted : (job : Job) (q x : ℕ) (s : State) → idle (s .loading) ≡ true → q < job .slots → (x ≡ free → ⊥)
-    → stands x (s .slots) ≡ false → loadNumber job q x s ≡ 0
-load-permitted job q x s i l f n = rw (i, lt-ltb q (job .slots) l, ne-eqb x free f, n)
 
 -- A tick is an endless wait only with no load under way, the draw's symbol in no slot, and nothing to come.
 pub unstuck : (loading : Loading) (x : ℕ) (slots : List ℕ) (d : Bool) → (loading ≡ Idle → stands x slots ≡ false → d ≡ false)
@@ -31,7 +26,7 @@ unstuck (Under left q y) x slots d h =
 
 -- A plan that is ready in a state asks only for a load that the display takes, and for one where the draw would wait with none under way.
 pub record Ready (job : Job) (asks : State → Begun) (s : State) : Type 0 where
-  pub permitted : (q x : ℕ) → asks s ≡ Load q x → loadNumber job q x s ≡ 0
+  pub permitted : (q x : ℕ) → asks s ≡ Load q x → firstOf (loadTests job q x s) ≡ clear
   pub served : asks s ≡ NoLoad → s .loading ≡ Idle → stands (awaited s) (s .slots) ≡ true
 
 goes-through : (s : State) → (s .loading ≡ Idle → stands (awaited s) (s .slots) ≡ true)
@@ -48,7 +43,7 @@ module _ (job : Job) (asks : State → Begun) (s : State) (ready : Ready job ask
   begins-or-not NoLoad e = goes-through (land s) (ready .served e)
   begins-or-not (Load q x) e =
       let (s′, h) = goes-through (begin job q x (land s)) (λ i. let z : _≡_ {A = ℕ} 0 1 = cc in absurd (omega arith)) in
-      (s′, rw (ready .permitted q x e) h)
+      (s′, ap (λ (v : Verdict). then (unless v (going (begin job q x (land s)))) (λ z. happened (happeningOf z) true z)) (ready .permitted q x e) ∙ h)
 
   -- The tick goes on to a next state.
   pub goes-on : (s′ : State) × (tick job (asking asks) s ≡ going s′)

@@ -10,16 +10,17 @@ use Rattle.rules.specs.Job.{Job, most-time, most-draws}
 use Rattle.rules.specs.LoadList.{last-tick}
 use Rattle.rules.specs.Display.{State, Rule, going, start, land, tick, finished, run}
 use Rattle.rules.specs.Plans.{asking, runPlan}
-use Rattle.rules.specs.Refusals.{inOrder, eventOf}
+use Rattle.rules.specs.Refusals.{follows, eventOf}
 use Rattle.laws.proofs.Cases.{by-test}
 use Rattle.laws.proofs.Moves.{is-more, is-over}
 use Rattle.laws.proofs.Runs.{run-then, run-finished, run-unfinished, run-ticks}
 use Rattle.laws.proofs.Jobs.{Proper}
+use Rattle.laws.proofs.Along.{Ruly}
 use Rattle.laws.proofs.Counts.{counted, elapsed}
 use Rattle.laws.proofs.Sane.{SaneState, SaneMoves, sane, sane-moves, reached-sanely}
 use Rattle.plan_laws.proofs.Going.{Ready, goes-on}
 use Rattle.plan_laws.proofs.Clock.{waits-few}
-use Rattle.plan_laws.proofs.Replay.{in-order}
+use Rattle.plan_laws.proofs.Replay.{in-order, replay}
 
 -- A plan that is done: every draw is made, with at most a load to each draw and at most F waits to each load. So elapsed is at most n + F · n,
 -- far below the last tick that a list can name. The list of its loads, checked, comes to the same state.
@@ -31,7 +32,8 @@ pub record Done (job : Job) (rule : Rule) (P : State → Type 0) : Type 0 where
   pub brief : last .waits ≤ job .time * last .loads
   pub whole : last .tick ≡ length (job .draws) + last .waits
   pub listed : length (last .begun) ≡ last .loads
-  pub replays : inOrder job (map eventOf (last .begun)) ≡ going last
+  pub in-order : Ruly 0 (map eventOf (last .begun))
+  pub replays : follows job (map eventOf (last .begun)) ≡ going last
   pub kept : P last
 
 -- The same with another fact of its last state.
@@ -45,6 +47,7 @@ done-with job rule Q d also =
       brief = d .brief;
       whole = d .whole;
       listed = d .listed;
+      in-order = d .in-order;
       replays = d .replays;
       kept = also;
     }
@@ -106,6 +109,7 @@ module _ (job : Job) (proper : Proper job) (asks : State → Begun) (P : State �
         brief = brief;
         whole = elapsed job (asking asks) proper last-tick s e over;
         listed = counts .begun-all;
-        replays = in-order job (asking asks) last-tick s e over (omega arith) (omega arith);
+        in-order = in-order job (asking asks) last-tick s e over (omega arith);
+        replays = replay job (asking asks) last-tick s e over (omega arith);
         kept = holds last-tick s e;
       }

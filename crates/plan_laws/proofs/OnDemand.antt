@@ -10,12 +10,12 @@ use Rattle.rules.specs.Basics.{stands}
 use Rattle.rules.specs.Job.{Job}
 use Rattle.rules.specs.Display.{State, idle, awaited}
 use Rattle.rules.specs.Plans.{missing, furthest, ahead, behind, on-demand, opt, lru}
-use Rattle.laws.proofs.Moves.{Begins}
+use Rattle.laws.proofs.Moves.{Begins, load-free}
 use Rattle.laws.proofs.Jobs.{Proper}
 use Rattle.laws.proofs.Sane.{SaneState, SaneMoves, awaited-symbol}
 use Rattle.plan_laws.proofs.States.{chosen-slot}
 use Rattle.plan_laws.proofs.Asking.{asked-load, asked-none, both-true, other-false}
-use Rattle.plan_laws.proofs.Going.{Ready, load-permitted}
+use Rattle.plan_laws.proofs.Going.{Ready}
 use Rattle.plan_laws.proofs.Keeping.{Done, done}
 use Rattle.plan_laws.proofs.Rising.{Rising, rising-moves, rising-few, missing-now, missing-later}
 
@@ -44,7 +44,7 @@ module _ (job : Job) (proper : Proper job) (slot : State → ℕ) (below : (s : 
         permitted = λ q x e.
             let d : Demanded slot q x s = demanded slot q x s e in
             rw (← d .to, ← d .symbol)
-            (load-permitted job (slot s) (awaited s) s (d .quiet) (below s g)
+            (load-free job (slot s) (awaited s) s (d .quiet) (below s g)
             (awaited-symbol job (s .next) (s .rest) (s .slots) (s .loading) proper g more)
             (d .missed));
         served = λ e quiet.

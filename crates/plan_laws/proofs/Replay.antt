@@ -17,7 +17,7 @@ use Rattle.rules.specs.Basics.{stands}
 use Rattle.rules.specs.Job.{Job}
 use Rattle.rules.specs.LoadList.{Event, event, last-tick}
 use Rattle.rules.specs.Display.{State, Run, Rule, going, refused, start, landedSlots, landedLoading, land, beginning, awaited, happeningOf, wait, moved, happened, then, tick, finished, run}
-use Rattle.rules.specs.Refusals.{unruly, due, follow, patience, follows, inOrder, eventOf}
+use Rattle.rules.specs.Refusals.{unruly, due, follow, patience, follows, eventOf}
 use Rattle.laws.proofs.Cases.{by-test}
 use Rattle.laws.proofs.Moves.{Moves, reached, then-going, beginning-going, happened-going, tick-kept, is-more}
 use Rattle.laws.proofs.Runs.{run-finished, run-unfinished, run-longer, tick-ticks}
@@ -239,9 +239,8 @@ module _ (job : Job) (rule : Rule) where
         run-longer job (follow Events) t (patience job) (start job) last enough (r .same) (ap finished over) in
         rw (longer, le-ltb (last .loads) (length Events) (omega arith))
 
-    -- Its ticks rise strictly, so where the run was over in time none is refused.
-    pub in-order : t ≤ patience job → last .tick ≤ last-tick + 1 → inOrder job Events ≡ going last
-    in-order enough soon =
+    -- Its ticks rise strictly, so where the run was over in time it is in order.
+    pub in-order : last .tick ≤ last-tick + 1 → Ruly 0 Events
+    in-order soon =
         let r : Replayed t (start job) last = replayed t (start job) last refl ran over in
-        let ruly : Ruly 0 Events = rw (r .all) (ordered-ruly soon (r .ordered)) in
-        rw (le-ltb (unruly 0 Events) (length Events) (omega arith)) (replay enough)
+        rw (r .all) (ordered-ruly soon (r .ordered))

@@ -1,73 +1,75 @@
 -- A plan of a job that was taken: its run is never refused and is over in time, so every load has a place; and the answers of `plan`.
-use Prim.Native.Nat.{ℕ, _+_, _*_, _<_, _≤_}
+use Prim.Native.Nat.{ℕ, _+_, _*_, _≤_}
 use native.Mathlib.Omega.{arith}
 use mathlib.Core.Path.{_≡_, refl, sym, ap, _∙_}
 use mathlib.Core.Bool.{Bool, true, false, cond}
 use mathlib.Core.List.{List, [], map}
 use lib.ListN.{length, take, drop, length-take}
-use borrow.Author.Tests.{lt-ltb, le-ltb, ne-eqb}
-use Rattle.rules.specs.declared.JobReading.the-variants.{Taken, Refused}
+use lib.Dec.{ltb}
+use borrow.Author.Tests.{ltb-false}
+use Rattle.rules.specs.declared.Answer.{Answer}
+use Rattle.rules.specs.declared.JobReading.{JobReading}
+use Rattle.rules.specs.declared.JobReading.the-variants.{Taken}
 use Rattle.rules.specs.declared.Shape.{Shape}
-use Rattle.rules.specs.Job.{symbols, shapeOf, startingOf, drawsOf, draws-at, jobOf, most-slots, most-draws}
+use Rattle.rules.specs.Order.{clear, met}
+use Rattle.rules.specs.Job.{symbols, shapeOf, drawsOf, draws-at, jobOf, most-slots, most-draws}
 use Rattle.rules.specs.LoadList.{head-size, event-size}
-use Rattle.rules.specs.Display.{State, Run, Loaded, going, refused, finished}
-use Rattle.rules.specs.Plans.{runPlan, begunIn, ruleOf, last-plan}
-use Rattle.rules.specs.Refusals.{readJob, badJobLength, badJobVersion, badLimits, badJobSize, badSymbols, inTime, planned, writtenBy, lent}
-use Rattle.laws.proofs.Cases.{by-test}
-use Rattle.laws.proofs.Jobs.{Proper, proper, passed}
+use Rattle.rules.specs.Display.{State, Loaded, going, refused, finished}
+use Rattle.rules.specs.Plans.{runPlan, begunIn, ruleOf}
+use Rattle.rules.specs.Refusals.{readJob, shortPlan, inTime, planTests, planned, answerOf, writtenBy, lent}
+use Rattle.laws.proofs.Verdicts.{Gives, gives}
+use Rattle.laws.proofs.Jobs.{Proper, proper, taken-shape, draws-many}
 use Rattle.laws.proofs.Symbols.{length-symbols}
 use Rattle.plan_laws.proofs.Keeping.{Done}
-use Rattle.plan_laws.proofs.Plans.{Any, plan-done}
+use Rattle.plan_laws.proofs.Plans.{Any, plan-done, planned-met, planned-past}
 use Rattle.display.specs.View.{view}
 use Rattle.planner.specs.declared.run.Ran.{Ran}
 use Rattle.choice.specs.Asks.{rowOf}
 use Rattle.planner.specs.Loads.{Lists, Noted, Written, Fitting, loadDraw, loadSlot, loadSymbol}
-use Rattle.planner.specs.Runs.{Limits, Shown, Planned}
+use Rattle.planner.specs.Runs.{Limits, Shown, Planned, Roomy, CarriedOut}
 use Rattle.choice.proofs.Turned.{length-rowOf}
 
--- ---- The refusals
+-- ---- The order of the refusals, as the code meets it
 
-refused-number : (m n : ℕ) → Refused m ≡ Refused n → m ≡ n
-refused-number m n e = cc
+-- The test of the lent room, as the code has it from the shape that was read.
+pub room-test : (job : List ℕ) (reading : JobReading) (shape : Shape) (room : ℕ) (r : Bool) → reading ≡ readJob job → reading ≡ Taken shape
+    → r ≡ ltb room (head-size + event-size * shape .draws) → r ≡ shortPlan job room
+unfolding shortPlan
+room-test job reading shape room r is taken e = rw (draws-many job shape (sym is ∙ taken)) e
 
--- A refusal of a job has a number.
-pub refused-some : (job : List ℕ) (n : ℕ) → readJob job ≡ Refused n → n ≡ 0 → ⊥
-refused-some job n e zero-number =
-    let clash : (m : ℕ) → Refused m ≡ Refused n → 0 < m → ⊥ = λ m f some. let same : m ≡ n = refused-number m n f in omega arith in
-    by-test (badJobLength job) (λ t. clash 1 (rw t at e) (omega arith)) (λ t₁.
-    by-test (badJobVersion job) (λ t. clash 2 (rw (t₁, t) at e) (omega arith)) (λ t₂.
-    by-test (badLimits (shapeOf job)) (λ t. clash 3 (rw (t₁, t₂, t) at e) (omega arith)) (λ t₃.
-    by-test (badJobSize job) (λ t. clash 4 (rw (t₁, t₂, t₃, t) at e) (omega arith)) (λ t₄.
-    by-test (badSymbols (startingOf job) (drawsOf job)) (λ t. clash 5 (rw (t₁, t₂, t₃, t₄, t) at e) (omega arith)) (λ t₅.
-    let taken : Taken (shapeOf job) ≡ Refused n = rw (t₁, t₂, t₃, t₄, t₅) at e in
-    let z : _≡_ {A = ℕ} 0 1 = cc in
-    omega arith)))))
+-- What the run asks for is known past the tests.
+pub roomy : (job : List ℕ) (reading : JobReading) (shape : Shape) (room : List ℕ) (r : Bool) → reading ≡ readJob job → reading ≡ Taken shape
+    → r ≡ ltb (length room) (head-size + event-size * shape .draws) → r ≡ false → Roomy job shape room
+unfolding shortPlan
+roomy job reading shape room r is taken e fails =
+    record {
+      taken = sym is ∙ taken;
+      enough = ltb-false _ _ (sym (room-test job reading shape (length room) r is taken e) ∙ fails);
+    }
 
-module _ (job : List ℕ) (p room : ℕ) where
-  pub planned-untaken : (n : ℕ) → readJob job ≡ Refused n → planned job p room ≡ refused n 0
-  unfolding planned
-  planned-untaken n e = rw (e, ne-eqb n 0 (refused-some job n e))
+module _ (job : List ℕ) (plan : ℕ) (room : List ℕ) (answer : Answer) where
+  -- A plan that is refused leaves the room as it was.
+  pub refuses : (n d : ℕ) → answer ≡ answerOf (refused n d) → Gives (planTests job plan (length room)) (met n d)
+      → (answer ≡ answerOf (planned job plan (length room))) × (room ≡ lent (writtenBy (planned job plan (length room))) room)
+  refuses n d answers g =
+      let is : planned job plan (length room) ≡ refused n d = planned-met job plan (length room) n d (gives _ _ g) in
+      (answers ∙ ap answerOf (sym is), rw is)
 
-  module _ (shape : Shape) (taken : readJob job ≡ Taken shape) where
-    pub planned-unknown : last-plan < p → planned job p room ≡ refused 6 0
-    unfolding planned
-    planned-unknown over = rw (taken, lt-ltb last-plan p over)
-
-    pub planned-short : p ≤ last-plan → room < head-size + event-size * length (drawsOf job) → planned job p room ≡ refused 7 0
-    unfolding planned
-    planned-short known short = rw (taken, le-ltb last-plan p known, lt-ltb room (head-size + event-size * length (drawsOf job)) short)
-
-    pub planned-run : p ≤ last-plan → head-size + event-size * length (drawsOf job) ≤ room
-        → planned job p room ≡ inTime (runPlan (jobOf job) (ruleOf (jobOf job) p))
-    unfolding planned
-    planned-run known enough = rw (taken, le-ltb last-plan p known, le-ltb room (head-size + event-size * length (drawsOf job)) enough)
+  -- Past all tests it is carried out.
+  pub carries-out : (room′ : List ℕ) → CarriedOut (inTime (runPlan (jobOf job) (ruleOf (jobOf job) plan))) answer room room′
+      → Gives (planTests job plan (length room)) clear
+      → (answer ≡ answerOf (planned job plan (length room))) × (room′ ≡ lent (writtenBy (planned job plan (length room))) room)
+  carries-out room′ carried g =
+      let is : planned job plan (length room) ≡ inTime (runPlan (jobOf job) (ruleOf (jobOf job) plan)) =
+      planned-past job plan (length room) (gives _ _ g) in
+      rw is (carried .answers, carried .writes)
 
 -- ---- The run
 
 pub limits : (job : List ℕ) (shape : Shape) → readJob job ≡ Taken shape → Limits job shape
 limits job shape taken =
     let p : Proper (jobOf job) = proper job shape taken in
-    let same : shapeOf job ≡ shape = passed job shape taken .shape-read in
+    let same : shapeOf job ≡ shape = taken-shape job shape taken in
     let draws : length (drawsOf job) ≡ shapeOf job .draws = length-symbols (shapeOf job .draws) _ in
     let few : length (drawsOf job) ≤ most-draws = p .few-draws in
     let same-slots : shapeOf job .slots ≡ shape .slots = ap (λ (s : Shape). s .slots) same in
@@ -161,26 +163,18 @@ module _ (job : List ℕ) (shape : Shape) (taken : readJob job ≡ Taken shape) 
 
 -- ---- The answer
 
-pub draws-many : (job : List ℕ) (shape : Shape) → readJob job ≡ Taken shape → length (drawsOf job) ≡ shape .draws
-draws-many job shape taken =
-    length-symbols (shapeOf job .draws) _ ∙ ap (λ (s : Shape). s .draws) (passed job shape taken .shape-read)
-
--- A refusal leaves the room as it was.
-pub untouched : (run : Run) (number detail : ℕ) (room : List ℕ) → run ≡ refused number detail → room ≡ lent (writtenBy run) room
-untouched run number detail room e = ap (λ (r : Run). lent (writtenBy r) room) (sym e)
-
-module _ (job : List ℕ) (shape : Shape) (taken : readJob job ≡ Taken shape) (p room : ℕ) (known : p ≤ last-plan)
-    (enough : head-size + event-size * length (drawsOf job) ≤ room) (r : Ran) (ticks draws slots symbols : List ℕ)
-    (ran : Planned p job r ticks draws slots symbols) where
+-- A run that is over answers its counts, and one that is not is refused with 15.
+module _ (job : List ℕ) (p : ℕ) (r : Ran) (ticks draws slots symbols : List ℕ) (ran : Planned p job r ticks draws slots symbols) where
   by-end : (over : Bool) → r .over ≡ over
-      → planned job p room ≡ cond over (going (view (ran .shown .held) (ran .shown .beside) (r .display))) (refused 15 0)
+      → inTime (runPlan (jobOf job) (ruleOf (jobOf job) p))
+      ≡ cond over (going (view (ran .shown .held) (ran .shown .beside) (r .display))) (refused 15 0)
   by-end over same =
-      planned-run job p room shape taken known enough
-      ∙ ran .shown .ends
+      ran .shown .ends
       ∙ ap (λ (b : Bool). cond b (going (view (ran .shown .held) (ran .shown .beside) (r .display))) (refused 15 0)) same
 
-  pub planned-over : r .over ≡ true → planned job p room ≡ going (view (ran .shown .held) (ran .shown .beside) (r .display))
-  planned-over over = by-end true over
+  pub ends-over : r .over ≡ true
+      → inTime (runPlan (jobOf job) (ruleOf (jobOf job) p)) ≡ going (view (ran .shown .held) (ran .shown .beside) (r .display))
+  ends-over over = by-end true over
 
-  pub planned-late : r .over ≡ false → planned job p room ≡ refused 15 0
-  planned-late late = by-end false late
+  pub ends-late : r .over ≡ false → inTime (runPlan (jobOf job) (ruleOf (jobOf job) p)) ≡ refused 15 0
+  ends-late late = by-end false late

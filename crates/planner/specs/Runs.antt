@@ -1,14 +1,17 @@
 -- What the waits behind a plan's tick keep to, and what its whole run asks for and ensures.
-use Prim.Native.Nat.{ℕ, _-_, _≤_, _<_}
+use Prim.Native.Nat.{ℕ, _+_, _*_, _-_, _≤_, _<_}
 use mathlib.Core.Path.{_≡_}
 use mathlib.Core.Bool.{cond}
 use mathlib.Core.List.{List}
 use lib.ListN.{length}
+use Rattle.rules.specs.declared.Answer.{Answer}
+use Rattle.rules.specs.declared.JobReading.the-variants.{Taken}
 use Rattle.rules.specs.declared.Shape.{Shape}
 use Rattle.rules.specs.Job.{shapeOf, startingOf, drawsOf, jobOf, most-slots, most-draws}
+use Rattle.rules.specs.LoadList.{head-size, event-size}
 use Rattle.rules.specs.Display.{Run, going, refused}
 use Rattle.rules.specs.Plans.{opt, runPlan, begunIn, ruleOf}
-use Rattle.rules.specs.Refusals.{inTime}
+use Rattle.rules.specs.Refusals.{readJob, inTime, answerOf, writtenBy, lent}
 use Rattle.display.specs.View.{Beside, view}
 use Rattle.display.specs.declared.state.Display.{Display}
 use Rattle.planner.specs.declared.run.Ran.{Ran}
@@ -53,3 +56,13 @@ pub record Planned (plan : ℕ) (job : List ℕ) (r : Ran) (ticks draws slots sy
   pub shown : Shown (runPlan (jobOf job) (ruleOf (jobOf job) plan)) r ticks draws slots symbols
   pub few : r .display .loads ≤ length (drawsOf job)
   pub few-draws : length (drawsOf job) ≤ most-draws
+
+-- A job that was taken with this shape, and room for a head and an event to each of its draws.
+pub record Roomy (job : List ℕ) (shape : Shape) (room : List ℕ) : Type 0 where
+  pub taken : readJob job ≡ Taken shape
+  pub enough : head-size + event-size * length (drawsOf job) ≤ length room
+
+-- The answer to a run and what the lent room holds later.
+pub record CarriedOut (run : Run) (answer : Answer) (room room′ : List ℕ) : Type 0 where
+  pub answers : answer ≡ answerOf run
+  pub writes : room′ ≡ lent (writtenBy run) room

@@ -7,14 +7,18 @@ use rules::Answer;
 use rules::JobReading;
 use rules::Shape;
 ghost use mathlib.Core.Path.{_≡_};
+ghost use Prim.Native.Nat.{_+_, _*_};
 ghost use lib.ListN.{length};
+ghost use lib.Dec.{ltb};
 ghost use Rattle.rules.specs.declared.JobReading.the-variants.{Taken};
-ghost use Rattle.rules.specs.Job.{drawsOf};
+ghost use Rattle.rules.specs.Job.{drawsOf, jobOf};
+ghost use Rattle.rules.specs.LoadList.{head-size, event-size};
 ghost use Rattle.rules.specs.Display.{refused};
-ghost use Rattle.rules.specs.Refusals.{readJob, jobNumber, planned, answerOf, writtenBy, lent};
+ghost use Rattle.rules.specs.Plans.{last-plan, ruleOf, runPlan};
+ghost use Rattle.rules.specs.Refusals.{readJob, jobNumber, inTime, planned, answerOf, writtenBy, lent};
 ghost use Rattle.choice.specs.Asks.{rowOf};
 ghost use Rattle.planner.specs.Loads.{Whole};
-ghost use Rattle.planner.specs.Runs.{Given, Planned};
+ghost use Rattle.planner.specs.Runs.{Given, Planned, Roomy, CarriedOut};
 
 fn refusal(number: u32) -> Answer
     ensures { λ r. ⌜ r ≡ answerOf (refused number 0) ⌝ }
@@ -152,21 +156,25 @@ fn run_of(
     )
 }
 
-// Plans the job and writes the list from the room's first byte on. Nothing is written before the last refusal is past.
-pub fn plan(job: &[u8], plan: u32, room: &mut [u8]) -> Answer
-    ensures answers { λ r. ⌜ r ≡ answerOf (planned (now (job .entry)) plan (length (now (room .entry)))) ⌝ }
-    ensures writes { λ r. ⌜ now (room .exit) ≡ lent (writtenBy (planned (now (job .entry)) plan (length (now (room .entry))))) (now (room .entry)) ⌝ }
+// 6. No plan has this number.
+fn unknown(plan: u32) -> bool
+    ensures { λ r. ⌜ r ≡ ltb last-plan plan ⌝ }
 {
-    let reading = sheet::read_job(job);
-    let JobReading::Taken(shape) = reading else {
-        return refusal_of(reading);
-    };
-    if 3 < plan {
-        return refusal(6);
-    }
-    if room.len() < 7 + 7 * shape.draws as usize {
-        return refusal(7);
-    }
+    3 < plan
+}
+
+// 7. The room is too short for a head and an event to each draw.
+fn short_room(draws: u16, room: usize) -> bool
+    ensures { λ r. ⌜ r ≡ ltb room (head-size + event-size * draws) ⌝ }
+{
+    room < 7 + 7 * draws as usize
+}
+
+// The run of a plan of a job that was taken, and its list in room enough. Nothing is written before the last refusal is past.
+fn carry_out(job: &[u8], shape: Shape, plan: u32, room: &mut [u8]) -> Answer
+    requires { ⌜ Roomy (now job) shape (now room) ⌝ }
+    ensures { λ r. ⌜ CarriedOut (inTime (runPlan (jobOf (now (job .entry))) (ruleOf (jobOf (now (job .entry))) plan))) r (now (room .entry)) (now (room .exit)) ⌝ }
+{
     let mut ticks = [0; 4096];
     let mut draws = [0; 4096];
     let mut slots = [0; 4096];
@@ -192,4 +200,22 @@ pub fn plan(job: &[u8], plan: u32, room: &mut [u8]) -> Answer
         };
     }
     refusal(15)
+}
+
+// Plans the job and writes the list from the room's first byte on; where it is refused, the room is as it was.
+pub fn plan(job: &[u8], plan: u32, room: &mut [u8]) -> Answer
+    ensures answers { λ r. ⌜ r ≡ answerOf (planned (now (job .entry)) plan (length (now (room .entry)))) ⌝ }
+    ensures writes { λ r. ⌜ now (room .exit) ≡ lent (writtenBy (planned (now (job .entry)) plan (length (now (room .entry))))) (now (room .entry)) ⌝ }
+{
+    let reading = sheet::read_job(job);
+    let JobReading::Taken(shape) = reading else {
+        return refusal_of(reading);
+    };
+    if unknown(plan) {
+        return refusal(6);
+    }
+    if short_room(shape.draws, room.len()) {
+        return refusal(7);
+    }
+    carry_out(job, shape, plan, room)
 }

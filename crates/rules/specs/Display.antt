@@ -15,6 +15,7 @@ use Rattle.rules.specs.declared.Happening.{Happening}
 use Rattle.rules.specs.declared.Happening.the-variants.{Draw, Wait}
 use Rattle.rules.specs.declared.TickRecord.{TickRecord}
 use Rattle.rules.specs.Basics.{place, stands}
+use Rattle.rules.specs.Order.{Test, test, Verdict, clear, met, firstOf, numberIn}
 use Rattle.rules.specs.Job.{Job, free}
 
 -- A draw that was made: its tick and the slot that it was drawn from.
@@ -65,6 +66,11 @@ start job =
 pub data Run : Type 0 where
   going : State → Run
   refused : (number detail : ℕ) → Run
+
+-- A run behind an order of refusals: refused by the first test that holds, and as it is where none does.
+abbrev pub unless : Verdict → Run → Run
+unless clear r = r
+unless (met number detail) r = refused number detail
 
 -- A rule for what begins: what it asks for in a tick, and whether, at a wait with no load under way, it will ask for nothing any more.
 pub record Rule : Type 0 where
@@ -119,20 +125,24 @@ idle (Under left q x) = false
 abbrev pub loadable : Job → ℕ → Bool
 loadable job q = ltb q (job .slots)
 
--- A load is refused while another is under way (10), in a slot that may not be named (11), and of a symbol that some slot
--- holds or that is no symbol (12), tested in this order; 0 where none of these holds.
-abbrev pub loadNumber : Job → ℕ → ℕ → State → ℕ
-loadNumber job q x s =
-    cond (not (idle (s .loading))) 10
-    (cond (not (loadable job q)) 11
-    (cond (eqb x free || stands x (s .slots)) 12
-    0))
+-- The order for one load: while another is under way (10), into a slot that may not be named (11), and of a symbol that some slot
+-- holds or that is no symbol (12). The detail is the number of the event, counted from 0.
+abbrev pub loadTests : Job → ℕ → ℕ → State → List Test
+loadTests job q x s =
+    test 10 (s .loads) (not (idle (s .loading)))
+    ∷ test 11 (s .loads) (not (loadable job q))
+    ∷ test 12 (s .loads) (eqb x free || stands x (s .slots))
+    ∷ []
 
--- What begins, if anything does. The detail of a refusal is the number of the event, counted from 0.
+-- The number of the refusal that a load meets; 0 where it meets none.
+abbrev pub loadNumber : Job → ℕ → ℕ → State → ℕ
+loadNumber job q x s = numberIn (firstOf (loadTests job q x s))
+
+-- What begins, if anything does.
 unfoldable pub beginning : Job → Begun → State → Run
+unfolding firstOf
 beginning job NoLoad s = going s
-beginning job (Load q x) s =
-    cond (eqb (loadNumber job q x s) 0) (going (begin job q x s)) (refused (loadNumber job q x s) (s .loads))
+beginning job (Load q x) s = unless (firstOf (loadTests job q x s)) (going (begin job q x s))
 
 -- Step 3. The symbol of the next draw, and what happens: it is drawn from the first slot that holds it, or the tick is a wait.
 abbrev pub awaited : State → ℕ

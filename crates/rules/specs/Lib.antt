@@ -1,4 +1,5 @@
 pub mod Basics
+pub mod Order
 pub mod Job
 pub mod LoadList
 pub mod Display

@@ -13,9 +13,10 @@ use Rattle.rules.specs.declared.ListReading.{ListReading}
 use Rattle.rules.specs.declared.ListReading.the-variants.{Listed, Unreadable}
 use Rattle.rules.specs.declared.Shape.{Shape}
 use Rattle.rules.specs.Basics.{stands, number32, bytes32}
+use Rattle.rules.specs.Order.{Test, test, Verdict, clear, met, firstOf}
 use Rattle.rules.specs.Job.{Job, free, most-slots, most-time, most-draws, shapeOf, startingOf, drawsOf, jobOf}
 use Rattle.rules.specs.LoadList.{Event, event, most-events, last-tick, head-size, event-size, countOf, eventsOf, listBytes}
-use Rattle.rules.specs.Display.{State, Run, Rule, Drawn, drawn, Loaded, loaded, going, refused, then, start, finished, run}
+use Rattle.rules.specs.Display.{State, Run, Rule, Drawn, drawn, Loaded, loaded, going, refused, unless, then, start, finished, run}
 use Rattle.rules.specs.Plans.{last-plan, ruleOf, runPlan}
 
 -- ---- A job: refusals 1 to 5
@@ -49,15 +50,23 @@ doubled (x ∷ l) = not (eqb x free) && stands x l || doubled l
 abbrev pub badSymbols : List ℕ → List ℕ → Bool
 badSymbols starting draws = doubled starting || stands free draws
 
--- A job is read in this order.
+-- The order for a job: 1 to 5 rising.
+unfoldable pub jobTests : List ℕ → List Test
+jobTests job =
+    test 1 0 (badJobLength job)
+    ∷ test 2 0 (badJobVersion job)
+    ∷ test 3 0 (badLimits (shapeOf job))
+    ∷ test 4 0 (badJobSize job)
+    ∷ test 5 0 (badSymbols (startingOf job) (drawsOf job))
+    ∷ []
+
+-- A job is taken with its shape, or refused with the number of the first of these tests that holds. The detail of each is 0.
+abbrev pub readAs : Verdict → Shape → JobReading
+readAs clear shape = Taken shape
+readAs (met number detail) shape = Refused number
+
 abbrev pub readJob : List ℕ → JobReading
-readJob job =
-    cond (badJobLength job) (Refused 1)
-    (cond (badJobVersion job) (Refused 2)
-    (cond (badLimits (shapeOf job)) (Refused 3)
-    (cond (badJobSize job) (Refused 4)
-    (cond (badSymbols (startingOf job) (drawsOf job)) (Refused 5)
-    (Taken (shapeOf job))))))
+readJob job = readAs (firstOf (jobTests job)) (shapeOf job)
 
 -- Document 01's number for what reading a job found.
 abbrev pub jobNumber : JobReading → ℕ
@@ -110,27 +119,29 @@ closing events s = cond (ltb (s .loads) (length events)) (refused 14 (s .loads))
 abbrev pub follows : Job → List Event → Run
 follows job events = then (run job (follow events) (patience job) (start job)) (closing events)
 
-abbrev pub inOrder : Job → List Event → Run
-inOrder job events =
-    cond (ltb (unruly 0 events) (length events)) (refused 9 (unruly 0 events)) (follows job events)
-
 -- 7. A check needs a place for each draw in both lent buffers.
-abbrev pub shortCheck : List ℕ → ℕ → ℕ → Bool
+unfoldable pub shortCheck : List ℕ → ℕ → ℕ → Bool
 shortCheck job ticks slots = ltb ticks (length (drawsOf job)) || ltb slots (length (drawsOf job))
 
--- The order for a check: 1 to 5, then 8, 7, 9 over the whole list, then 10 to 14 as time meets them.
+-- The order for a check before time begins: 1 to 5, then 8, 7, and 9 over the whole list, with the first event out of order.
 -- It goes by the bytes of the job and the list, and by the places lent for ticks and for slots.
+abbrev pub checkTests : List ℕ → List ℕ → ℕ → ℕ → List Test
+checkTests job list ticks slots =
+    jobTests job
+    ++ (test 8 0 (badList list)
+    ∷ test 7 0 (shortCheck job ticks slots)
+    ∷ test 9 (unruly 0 (eventsOf list)) (ltb (unruly 0 (eventsOf list)) (length (eventsOf list)))
+    ∷ [])
+
+-- Where none of these holds, 10 to 14 come as time meets them.
 unfoldable pub checked : List ℕ → List ℕ → ℕ → ℕ → Run
-checked job list ticks slots =
-    cond (not (eqb (jobNumber (readJob job)) 0)) (refused (jobNumber (readJob job)) 0)
-    (cond (badList list) (refused 8 0)
-    (cond (shortCheck job ticks slots) (refused 7 0)
-    (inOrder (jobOf job) (eventsOf list))))
+unfolding firstOf jobTests shortCheck
+checked job list ticks slots = unless (firstOf (checkTests job list ticks slots)) (follows (jobOf job) (eventsOf list))
 
 -- ---- A plan: refusals 6, 7 and 15
 
 -- 7. A plan needs room for a head and an event to each draw.
-abbrev pub shortPlan : List ℕ → ℕ → Bool
+unfoldable pub shortPlan : List ℕ → ℕ → Bool
 shortPlan job room = ltb room (head-size + event-size * length (drawsOf job))
 
 -- 15. Elapsed would pass the last tick: the plan is not done by then, or it would wait for ever.
@@ -138,13 +149,18 @@ abbrev pub inTime : Run → Run
 inTime (going s) = cond (finished (s .rest)) (going s) (refused 15 0)
 inTime (refused number detail) = refused 15 0
 
--- The order for a plan: 1 to 5, then 6, 7, 15. It goes by the bytes of the job, the plan's number and the room lent.
+-- The order for a plan before its run: 1 to 5, then 6, 7. It goes by the bytes of the job, the plan's number and the room lent.
+abbrev pub planTests : List ℕ → ℕ → ℕ → List Test
+planTests job plan room =
+    jobTests job
+    ++ (test 6 0 (ltb last-plan plan)
+    ∷ test 7 0 (shortPlan job room)
+    ∷ [])
+
+-- Where none of these holds, 15 is left.
 unfoldable pub planned : List ℕ → ℕ → ℕ → Run
-planned job plan room =
-    cond (not (eqb (jobNumber (readJob job)) 0)) (refused (jobNumber (readJob job)) 0)
-    (cond (ltb last-plan plan) (refused 6 0)
-    (cond (shortPlan job room) (refused 7 0)
-    (inTime (runPlan (jobOf job) (ruleOf (jobOf job) plan)))))
+unfolding firstOf jobTests shortPlan
+planned job plan room = unless (firstOf (planTests job plan room)) (inTime (runPlan (jobOf job) (ruleOf (jobOf job) plan)))
 
 -- ---- The answer and lent memory
 

@@ -10,8 +10,7 @@ use rules::Shape;
 ghost use mathlib.Core.Path.{_≡_};
 ghost use Prim.Native.Nat.{_+_, _*_};
 ghost use Rattle.rules.specs.Basics.{number16};
-ghost use lib.ListN.{drop};
-ghost use Rattle.rules.specs.Job.{shapeOf, symbols, starting-at, draws-at};
+ghost use Rattle.rules.specs.Job.{shapeOf, startingOf, drawsOf, starting-at, draws-at};
 ghost use Rattle.sheet.specs.Row.{row64};
 ghost use Rattle.rules.specs.Refusals.{readJob, badJobLength, badJobVersion, badLimits, badJobSize, badSymbols};
 
@@ -43,9 +42,10 @@ fn bad_version(job: &[u8]) -> bool
 }
 
 // 3. Slots, load time or draws outside their limits.
-fn bad_limits(shape: Shape) -> bool
-    ensures { λ r. ⌜ r ≡ badLimits shape ⌝ }
+fn bad_limits(job: &[u8]) -> bool
+    ensures { λ r. ⌜ r ≡ badLimits (shapeOf (now (job .entry))) ⌝ }
 {
+    let shape = shape_of(job);
     if shape.slots < 1 {
         return true;
     }
@@ -70,9 +70,10 @@ fn bad_size(job: &[u8]) -> bool
 }
 
 // 5. A symbol in two starting slots, or the mark of a free slot among the draws.
-fn bad_symbols(job: &[u8], shape: Shape) -> bool
-    ensures { λ r. ⌜ r ≡ badSymbols (symbols (shape .slots) (drop starting-at (now (job .entry)))) (symbols (shape .draws) (drop (draws-at (shape .slots)) (now (job .entry)))) ⌝ }
+fn bad_symbols(job: &[u8]) -> bool
+    ensures { λ r. ⌜ r ≡ badSymbols (startingOf (now (job .entry))) (drawsOf (now (job .entry))) ⌝ }
 {
+    let shape = shape_of(job);
     if doubled_in(job, 10, shape.slots as u16) {
         return true;
     }
@@ -89,17 +90,16 @@ pub fn read_job(job: &[u8]) -> JobReading
     if bad_version(job) {
         return JobReading::Refused(2);
     }
-    let shape = shape_of(job);
-    if bad_limits(shape) {
+    if bad_limits(job) {
         return JobReading::Refused(3);
     }
     if bad_size(job) {
         return JobReading::Refused(4);
     }
-    if bad_symbols(job, shape) {
+    if bad_symbols(job) {
         return JobReading::Refused(5);
     }
-    JobReading::Taken(shape)
+    JobReading::Taken(shape_of(job))
 }
 
 // What a slot of the job holds at the start.
