@@ -10,7 +10,9 @@ slice-relend-prefix-check : tie.Need-slice-relend-prefix-check
 slice-relend-prefix-check c = search needs
 
 slice-aggregate-check : tie.Need-slice-aggregate-check
-slice-aggregate-check c = sym (length-take-le (c .before .before .before .before .before .args .places) (c .before .before .before .before .before .args .row .now) (c .before .before .before .before .before .pre))
+slice-aggregate-check c =
+    let s : tie.Start = search in
+    sym (length-take-le (s .args .places) (s .args .row .now) (s .pre))
 
 check-requires : tie.Need-check-requires
 check-requires c κs = search needs
@@ -21,11 +23,16 @@ same-length c = search needs
 same-length-2 : tie.Need-same-length-2
 same-length-2 c = search needs
 
+abbrev at-start : tie.After-check → tie.Start
+at-start p = search
+
 returns : tie.Need-returns
 returns c =
-    let a = c .before .before .before .before .before .before .before .before .before .before .before .args in
-    let k = c .before .before .before .before .check in
-    whole-row (a .job .now) (a .list .now) (a .row .now) (k .last .1 .1 .0) (a .slots .now) (k .last .1 .1 .1 .0) (a .places) (k .result) (c .before .before .before .before .before .before .before .before .before .before .before .pre) (k .ensures)
+    let p : tie.After-check = search in
+    let a = at-start p .args in
+    let k = p .check in
+    whole-row (a .job .now) (a .list .now) (a .row .now) (k .last .1 .1 .0) (a .slots .now) (k .last .1 .1 .1 .0) (a .places) (k .result)
+    (at-start p .pre) (k .ensures)
 
 pub check-in-spec : {M : Type 1} → statement M
 check-in-spec =

@@ -1,7 +1,9 @@
 -- `govahrin_check` meets its contract: the check in few places is the check for C, and its draws are elapsed without the waits.
+use Prim.Native.Nat.{ℕ, _-_, _≤_}
 use native.Mathlib.Omega.{arith}
 use lib.ListN.{length}
 use borrow.Author.Needs.{needs}
+use Rattle.rules.specs.declared.Answer.{Answer}
 use Rattle.govahrin.proofs.Places.{noted-draws, as-for-C}
 use Rattle.govahrin.proofs.govahrin_check.Statement.{statement}
 use Rattle.govahrin.proofs.govahrin_check.Tie as tie
@@ -15,11 +17,30 @@ slice-aggregate-check-in c = search needs
 check-in-requires : tie.Need-check-in-requires
 check-in-requires c κs = search needs
 
+-- The check is done in as many places as there is room for.
+module _ (p : tie.After-check-in) where
+  abbrev at-places : tie.After-few-places
+  at-places = search
+
+  abbrev at-start : tie.Start
+  at-start = search
+
+  abbrev places : ℕ
+  places = at-places .few-places .result
+
+  abbrev answer : Answer
+  answer = p .check-in .result
+
+  enough : (answer .waits ≤ answer .elapsed) × (answer .elapsed - answer .waits ≤ places)
+  enough =
+      let a = at-start .args in
+      let noted = noted-draws (a .job .now) (a .list .now) places (length (a .slots .now)) answer (p .check-in .ensures .0) in
+      (noted .0, noted .1)
+
 sub-draws : tie.Need-sub-draws
 sub-draws c =
-    let a = c .before .before .before .before .before .before .before .before .before .before .before .before .args in
-    let k = c .before .before .before .before .check-in in
-    noted-draws (a .job .now) (a .list .now) (c .before .before .before .before .before .before .before .few-places .result) (length (a .slots .now)) (k .result) (k .ensures .0) .0
+    let p : tie.After-check-in = search in
+    enough p .0
 
 cast-draws : tie.Need-cast-draws
 cast-draws c = search needs
@@ -29,11 +50,10 @@ slice-aggregate-put-ticks c = search needs
 
 put-ticks-requires : tie.Need-put-ticks-requires
 put-ticks-requires c κs =
-    let a = c .before .before .before .before .before .before .before .before .before .before .before .before .before .before .args in
-    let k = c .before .before .before .before .before .before .check-in in
-    let places = c .before .before .before .before .before .before .before .before .before .few-places in
-    let few = noted-draws (a .job .now) (a .list .now) (places .result) (length (a .slots .now)) (k .result) (k .ensures .0) .1 in
-    (omega (arith, places .ensures), omega (arith, places .ensures))
+    let p : tie.After-check-in = search in
+    let few = enough p .1 in
+    let places = at-places p .few-places .ensures in
+    (omega (arith, places), omega (arith, places))
 
 same-length : tie.Need-same-length
 same-length c = search needs
@@ -41,13 +61,17 @@ same-length c = search needs
 same-length-2 : tie.Need-same-length-2
 same-length-2 c = search needs
 
+abbrev at-check : tie.After-put-ticks → tie.After-check-in
+at-check p = search
+
 returns : tie.Need-returns
 returns c =
-    let a = c .before .before .before .before .before .before .before .before .before .before .before .before .before .before .before .before .before .args in
-    let k = c .before .before .before .before .before .before .before .before .before .check-in in
-    let places = c .before .before .before .before .before .before .before .before .before .before .before .before .few-places in
-    as-for-C (a .job .now) (a .list .now) _ (k .last .1 .1 .0) (a .slots .now) (k .last .1 .1 .1 .1 .0) (places .result) (k .result)
-    (a .ticks .now) (c .before .before .put-ticks .last .0) (places .ensures) (k .ensures) (c .before .before .put-ticks .ensures)
+    let t : tie.After-put-ticks = search in
+    let p = at-check t in
+    let a = at-start p .args in
+    let k = p .check-in in
+    as-for-C (a .job .now) (a .list .now) _ (k .last .1 .1 .0) (a .slots .now) (k .last .1 .1 .1 .1 .0) (places p) (k .result) (a .ticks .now)
+    (t .put-ticks .last .0) (at-places p .few-places .ensures) (k .ensures) (t .put-ticks .ensures)
 
 pub govahrin-check-spec : {M : Type 1} → statement M
 govahrin-check-spec =

@@ -92,11 +92,12 @@ module _ (p : tie.After-load-number) where
 
 returns : tie.Need-returns
 returns c =
+    let after : tie.After-refused-load = search in
     let p : tie.After-load-number = search in
     let some : p .load-number .result ≡ 0 → ⊥ = search in
     ticks-refused (jobOf (job p)) (follow (events p)) (held p) (held₁ p) (d p) (l p) (lands p) (at-asked-of p .asked-of .result)
-    (λ h remain. at-asked-of p .asked-of .ensures) (p .load-number .result) (numbered p) some (c .refused-load .result)
-    (ap (λ (t : Ticked). t .number) (c .refused-load .ensures)) (ap (λ (t : Ticked). t .detail) (c .refused-load .ensures))
+    (λ h remain. at-asked-of p .asked-of .ensures) (p .load-number .result) (numbered p) some (after .refused-load .result)
+    (ap (λ (t : Ticked). t .number) (after .refused-load .ensures)) (ap (λ (t : Ticked). t .detail) (after .refused-load .ensures))
 
 begin-requires : tie.Need-begin-requires
 begin-requires c κs =
@@ -137,6 +138,7 @@ same-length-2 c =
 
 returns-2 : tie.Need-returns-2
 returns-2 c =
+    let after : tie.After-settle = search in
     let b : tie.After-begin = search in
     let p = at-number b in
     let a = at-start p .args in
@@ -147,8 +149,8 @@ returns-2 c =
     ticks-went (jobOf (job p)) (follow (events p)) (held p) (held₁ p) (d p) (l p) (lands p) (at-asked-of p .asked-of .result)
     (λ h remain. at-asked-of p .asked-of .ensures) (p .load-number .result) (numbered p) (none b) (b .begin .last .0) (b .begin .result)
     (begins b) symbol awaits (leb (a .count) (l p .loads))
-    (λ h. ap (λ (n : ℕ). leb n (l p .loads)) (length-eventsIn (a .count) (drop head-size (a .list .now)))) (c .settle .result)
-    (c .settle .ensures)
+    (λ h. ap (λ (n : ℕ). leb n (l p .loads)) (length-eventsIn (a .count) (drop head-size (a .list .now)))) (after .settle .result)
+    (after .settle .ensures)
 
 pub follow-tick-spec : {M : Type 1} → statement M
 follow-tick-spec =

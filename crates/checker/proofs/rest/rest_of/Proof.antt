@@ -35,6 +35,7 @@ returns c =
 
 returns-2 : tie.Need-returns-2
 returns-2 c =
+    let after : tie.After-pass = search in
     let s : tie.Start = search in
     let still : tie.After-still-ticks = search in
     let fewer : tie.After-smaller = search in
@@ -46,7 +47,7 @@ returns-2 c =
     let waits : tie.After-enum-told2 = search in
     record {
       many = n;
-      passes = c .pass .ensures;
+      passes = after .pass .ensures;
       in-time = omega arith;
       behind = λ some. ap waiting (waits .enum-told2 .given .1);
       still = waits-fewer _ (a .d) m n (omega arith) (still .still-ticks .ensures);

@@ -23,10 +23,11 @@ module _ (s : tie.Start) where
 
 returns : tie.Need-returns
 returns c =
+    let after : tie.After-before-end = search in
     let s : tie.Start = search in
     let d = s .args .d in
     let all = size s in
-    let end : c .before-end .result ≡ d .until - 1 = c .before-end .ensures in
+    let end : after .before-end .result ≡ d .until - 1 = after .before-end .ensures in
     record {
       none-due = λ j less. due-none (events s) (d .loads) (d .tick + j) (omega arith);
       before-end = λ ends. omega arith;

@@ -9,8 +9,9 @@ refusal-requires c κs = search needs
 
 returns : tie.Need-returns
 returns c =
+    let after : tie.After-refusal = search in
     let s : tie.Start = search in
-    finished-early (s .args .count) (s .args .d) (c .refusal .result) (search) (c .refusal .ensures)
+    finished-early (s .args .count) (s .args .d) (after .refusal .result) (search) (after .refusal .ensures)
 
 returns-2 : tie.Need-returns-2
 returns-2 c =

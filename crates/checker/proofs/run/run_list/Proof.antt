@@ -46,14 +46,15 @@ start-requires c κs = search needs
 
 loop-holds : tie.Need-loop-holds Inv-loop μ-loop
 loop-holds c =
+    let after : tie.After-start Inv-loop μ-loop = search in
     let s : tie.Start Inv-loop μ-loop = search in
     let a = s .args in (
       refl,
       refl,
       refl,
       first (drawsOf (a .job .now)),
-      walking-first (a .job .now) (eventsIn (a .count) (drop head-size (a .list .now))) (a .held .now) (c .start .result) (a .ticks .now)
-          (a .slots .now) (s .pre .starts) (c .start .ensures),
+      walking-first (a .job .now) (eventsIn (a .count) (drop head-size (a .list .now))) (a .held .now) (after .start .result) (a .ticks .now)
+          (a .slots .now) (s .pre .starts) (after .start .ensures),
     )
 
 -- A turn of the loop: the job and the list that it goes along, and what the loop has kept.
@@ -108,8 +109,7 @@ returns c =
     let p : tie.At-loop Inv-loop μ-loop = search in
     let over : shape p .draws ≤ p .loop .d .next = search in
     let draws = many p in
-    shown-out (jobOf (job p)) (events p) _ _ _ _ _ (walking p) (at-start p .args .count) (c .finish .result) (omega arith)
-    (length-eventsIn _ _) (c .finish .ensures)
+    shown-out (jobOf (job p)) (events p) _ _ _ _ _ (walking p) (at-start p .args .count) _ (omega arith) (length-eventsIn _ _) search
 
 finish-requires-2 : tie.Need-finish-requires-2 Inv-loop μ-loop
 finish-requires-2 c κs = search needs
@@ -127,8 +127,8 @@ returns-2 : tie.Need-returns-2 Inv-loop μ-loop
 returns-2 c =
     let p : tie.At-loop Inv-loop μ-loop = search in
     let late : limit p ≤ p .loop .d .tick = search in
-    shown-up (jobOf (job p)) (events p) _ _ _ _ _ (walking p) (at-start p .args .count) (c .finish2 .result) (rw (whole p) at late)
-    (length-eventsIn _ _) (c .finish2 .ensures)
+    shown-up (jobOf (job p)) (events p) _ _ _ _ _ (walking p) (at-start p .args .count) _ (rw (whole p) at late)
+    (length-eventsIn _ _) search
 
 follow-tick-requires : tie.Need-follow-tick-requires Inv-loop μ-loop
 follow-tick-requires c κs =
@@ -187,10 +187,11 @@ same-length-9 c = search needs
 
 returns-3 : tie.Need-returns-3 Inv-loop μ-loop
 returns-3 c =
+    let after : tie.After-refusal Inv-loop μ-loop = search in
     let t : tie.After-follow-tick Inv-loop μ-loop = search in
     let some : t .follow-tick .result .number ≡ 0 → ⊥ = search in
     shown-refused (jobOf (job (at-loop t))) (events (at-loop t)) _ _ _ _ _ (walking (at-loop t)) (within t) (early t) _
-    (t .follow-tick .result) (c .refusal .result) (t .follow-tick .ensures) some (c .refusal .ensures)
+    (t .follow-tick .result) (after .refusal .result) (t .follow-tick .ensures) some (after .refusal .ensures)
 
 note-requires : tie.Need-note-requires Inv-loop μ-loop
 note-requires c κs =
@@ -223,16 +224,18 @@ rest-of-requires c κs =
 
 loop-less : tie.Need-loop-less Inv-loop μ-loop
 loop-less c =
+    let after : tie.After-rest-of Inv-loop μ-loop = search in
     let n : tie.After-note Inv-loop μ-loop = search in
     let p = at-loop (at-tick n) in
     let in-time = soon (at-tick n) in
     let one-more = ticked n in
-    let further : c .rest-of .result .tick ≡ at-tick n .follow-tick .result .display .tick + c .rest-of .ensures .many =
-    ap (λ (e : Display). e .tick) (c .rest-of .ensures .passes) in
+    let further : after .rest-of .result .tick ≡ at-tick n .follow-tick .result .display .tick + after .rest-of .ensures .many =
+    ap (λ (e : Display). e .tick) (after .rest-of .ensures .passes) in
     omega arith
 
 loop-again : tie.Need-loop-again Inv-loop μ-loop
 loop-again c =
+    let after : tie.After-rest-of Inv-loop μ-loop = search in
     let n : tie.After-note Inv-loop μ-loop = search in
     let t = at-tick n in
     let p = at-loop t in
@@ -244,7 +247,7 @@ loop-again c =
       ap length (noted .1) ∙ noted-length (r .on_record .happening) (λ q. q) (l .d .next) (l .slots) ∙ l .inv .2,
       onward (l .d) (r .on_record) (l .inv .3),
       walked-on (jobOf (job p)) (events p) _ _ _ _ _ (walking p) (within t) (early t) _ r (t .follow-tick .ensures) (unrefused n)
-          (c .rest-of .result) (rw (whole p) at (c .rest-of .ensures)) (n .note .last .0) (n .note .last .1 .0) (room t .0) (room t .1)
+          (after .rest-of .result) (rw (whole p) at (after .rest-of .ensures)) (n .note .last .0) (n .note .last .1 .0) (room t .0) (room t .1)
           (noted .0) (noted .1),
     )
 

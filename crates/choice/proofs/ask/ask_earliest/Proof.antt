@@ -1,5 +1,7 @@
 -- The one test of conservative, on what opt's slot holds now.
-use Prim.Native.Nat.{_+_, _<_, _≤_}
+use Prim.Native.Nat.{ℕ, _+_, _<_, _≤_}
+use native.Mathlib.Omega.{arith}
+use mathlib.Core.Path.{_≡_}
 use lib.ListN.{getD}
 use borrow.Author.Needs.{needs}
 use Rattle.rules.specs.Basics.{place}
@@ -16,18 +18,34 @@ find-requires c κs = search needs
 add-if1 : tie.Need-add-if1
 add-if1 c = search needs
 
+-- What opt's slot holds now is looked up along the row.
+module _ (p : tie.After-find) where
+  abbrev at-start : tie.Start
+  at-start = search
+
+  abbrev at-content : tie.After-content-of
+  at-content = search
+
+  abbrev outgoing : ℕ
+  outgoing = place (getD (at-start .args .slots .now) (at-start .args .slot) 0) (at-start .args .rest .now)
+
+  looked-up : p .find .result ≡ outgoing
+  looked-up = rw (← at-content .content-of .ensures) (p .find .ensures .0)
+
 returns : tie.Need-returns
 returns c =
-    let a = c .before .before .before .before .before .args in
-    let sooner : a .next + place (getD (a .slots .now) (a .slot) 0) (a .rest .now) < a .miss =
-    rw (← c .before .before .content-of .ensures, ← c .before .find .ensures .0) (c .if1 .taken) in
+    let p : tie.After-find = search in
+    let a = at-start p .args in
+    let found = looked-up p in
+    let sooner : a .next + outgoing p < a .miss = omega arith in
     λ s still remain at. earliest-not s (a .slots .now) (a .rest .now) (a .next) (a .miss) (a .slot) (a .symbol) still remain at sooner
 
 returns-2 : tie.Need-returns-2
 returns-2 c =
-    let a = c .before .before .before .before .before .args in
-    let later : a .miss ≤ a .next + place (getD (a .slots .now) (a .slot) 0) (a .rest .now) =
-    rw (← c .before .before .content-of .ensures, ← c .before .find .ensures .0) (c .if1 .left) in
+    let p : tie.After-find = search in
+    let a = at-start p .args in
+    let found = looked-up p in
+    let later : a .miss ≤ a .next + outgoing p = omega arith in
     λ s still remain at. earliest-now s (a .slots .now) (a .rest .now) (a .next) (a .miss) (a .slot) (a .symbol) still remain at later
 
 pub ask-earliest-spec : {M : Type 1} → statement M

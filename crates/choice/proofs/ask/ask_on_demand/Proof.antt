@@ -12,21 +12,26 @@ find-requires c κs = search needs
 
 returns : tie.Need-returns
 returns c =
-    let a = c .before .before .before .before .args in
+    let begun : tie.Start = search in
+    let f : tie.After-find = search in
+    let a = begun .args in
     λ s slot still next at.
     demand-held s slot (a .slots .now) (a .symbol) still next
-    (found-stands (a .symbol) (a .slots .now) (c .before .find .result) (length (a .slots .now)) (c .before .find .ensures .0) refl (c .if1 .taken))
+    (found-stands (a .symbol) (a .slots .now) (f .find .result) (length (a .slots .now)) (f .find .ensures .0) refl search)
 
 furthest-requires : tie.Need-furthest-requires
 furthest-requires c κs = search needs
 
 returns-2 : tie.Need-returns-2
 returns-2 c =
-    let a = c .before .before .before .before .before .args in
+    let after : tie.After-furthest = search in
+    let begun : tie.Start = search in
+    let f : tie.After-find = search in
+    let a = begun .args in
     λ s slot still next at.
     demand-missing s slot (a .slots .now) (a .symbol) still next
-    (missed-stands (a .symbol) (a .slots .now) (c .before .before .find .result) (length (a .slots .now)) (c .before .before .find .ensures .0) refl (c .before .if1 .left))
-    (c .furthest .result) (c .furthest .ensures .0 ∙ sym at)
+    (missed-stands (a .symbol) (a .slots .now) (f .find .result) (length (a .slots .now)) (f .find .ensures .0) refl search)
+    (after .furthest .result) (after .furthest .ensures .0 ∙ sym at)
 
 pub ask-on-demand-spec : {M : Type 1} → statement M
 ask-on-demand-spec = tie.close (tie.spec find-requires returns furthest-requires returns-2)

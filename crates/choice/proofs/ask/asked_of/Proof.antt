@@ -1,6 +1,6 @@
 -- With a load under way no plan asks; without one, the part of the row that is handed on is what the plan looks along.
 use Prim.Native.Nat.{ℕ}
-use mathlib.Core.Path.{refl, sym, ap, _∙_}
+use mathlib.Core.Path.{_≡_, refl, sym, ap, _∙_}
 use lib.ListN.{drop}
 use borrow.Author.Needs.{needs}
 use Rattle.rules.specs.Display.{idle}
@@ -12,9 +12,12 @@ use Rattle.choice.proofs.ask.asked_of.Tie as tie
 
 returns : tie.Need-returns
 returns c =
-    let a = c .before .before .before .before .args in
+    let s : tie.Start = search in
+    let a = s .args in
+    let busy : a .d .until ≡ 0 → ⊥ = search in
     λ h job turned remain awaits.
-    asks-busy (a .plan) job (a .order) (view (a .slots .now) h (a .d)) (ap idle (under-way (a .d .until) (a .d .into) (a .d .what) (c .if1 .taken)))
+    asks-busy (a .plan) job (a .order) (view (a .slots .now) h (a .d))
+    (ap idle (under-way (a .d .until) (a .d .into) (a .d .what) busy))
 
 look-from-requires : tie.Need-look-from-requires
 look-from-requires c κs = search needs
@@ -36,11 +39,15 @@ choose-requires c κs = search needs
 
 returns-2 : tie.Need-returns-2
 returns-2 c =
-    let a = c .before .before .before .before .before .before .before .args in
-    let from = c .before .before .look-from in
+    let after : tie.After-choose = search in
+    let s : tie.Start = search in
+    let p : tie.After-look-from = search in
+    let a = s .args in
+    let from = p .look-from in
+    let free : a .d .until ≡ 0 = search in
     λ h job turned remain awaits.
-    c .choose .ensures (view (a .slots .now) h (a .d)) job (ap (λ (n : ℕ). loadingOf n (a .d .into) (a .d .what)) (c .before .before .before .if1 .left), refl) awaits refl
-    (looks-along (a .plan) job (view (a .slots .now) h (a .d)) (a .row .now) turned remain (c .before .before .before .before .before .before .before .pre .1)
+    after .choose .ensures (view (a .slots .now) h (a .d)) job (ap (λ (n : ℕ). loadingOf n (a .d .into) (a .d .what)) free, refl) awaits refl
+    (looks-along (a .plan) job (view (a .slots .now) h (a .d)) (a .row .now) turned remain (s .pre .1)
     ∙ ap (λ (n : ℕ). drop n (a .row .now)) (sym (from .ensures .0))
     ∙ sym (part-to-end (from .result) (a .row .now)))
 

@@ -12,10 +12,11 @@ ask-aggressive-requires c κs = search needs
 
 returns : tie.Need-returns
 returns c =
-    let a = c .before .before .before .before .args in
+    let after : tie.After-ask-aggressive = search in
+    let begun : tie.Start = search in
+    let a = begun .args in
     λ s job still awaits at looks.
-    by-aggressive job (a .order) s (a .row .now) (c .ask-aggressive .result) (a .plan) (c .before .if1 .taken) looks
-    (c .ask-aggressive .ensures s still)
+    by-aggressive job (a .order) s (a .row .now) (after .ask-aggressive .result) (a .plan) (search) looks (after .ask-aggressive .ensures s still)
 
 enum-known-order : tie.Need-enum-known-order
 enum-known-order c = search needs
@@ -25,30 +26,36 @@ enum-told c = search needs
 
 returns-2 : tie.Need-returns-2
 returns-2 c =
-    let a = c .before .before .before .before .before .before .args in
+    let begun : tie.Start = search in
+    let told : tie.After-enum-told = search in
+    let a = begun .args in
     λ s job still awaits at looks.
-    by-order job (a .order) s (a .row .now) NoLoad (a .plan) (c .before .before .if2 .taken) looks
-    (λ remain. simp (c .enum-told .given .1))
+    by-order job (a .order) s (a .row .now) NoLoad (a .plan) (search) looks (λ remain. simp (told .enum-told .given .1))
 
 ask-earliest-requires : tie.Need-ask-earliest-requires
 ask-earliest-requires c κs = search needs
 
 returns-3 : tie.Need-returns-3
 returns-3 c =
-    let a = c .before .before .before .before .before .before .before .before .args in
+    let after : tie.After-ask-earliest = search in
+    let begun : tie.Start = search in
+    let due : tie.After-order = search in
+    let a = begun .args in
     λ s job still awaits at looks.
-    by-order job (a .order) s (a .row .now) (c .ask-earliest .result) (a .plan) (c .before .before .before .before .if2 .taken) looks
-    (λ remain. simp (c .before .before .order .given .1) (c .ask-earliest .ensures s still remain at))
+    by-order job (a .order) s (a .row .now) (after .ask-earliest .result) (a .plan) (search) looks
+    (λ remain. simp (due .order .given .1) (after .ask-earliest .ensures s still remain at))
 
 ask-on-demand-requires : tie.Need-ask-on-demand-requires
 ask-on-demand-requires c κs = search needs
 
 returns-4 : tie.Need-returns-4
 returns-4 c =
-    let a = c .before .before .before .before .before .args in
+    let after : tie.After-ask-on-demand = search in
+    let begun : tie.Start = search in
+    let a = begun .args in
     λ s job still awaits at looks.
-    by-demand job (a .order) s (a .row .now) (c .ask-on-demand .result) (a .plan) (c .before .before .if1 .left) (c .before .if2 .left) looks
-    (λ slot chosen. c .ask-on-demand .ensures s slot still awaits (chosen ∙ ap (furthest (a .row .now)) (still .1)))
+    by-demand job (a .order) s (a .row .now) (after .ask-on-demand .result) (a .plan) (search) (search) looks
+    (λ slot chosen. after .ask-on-demand .ensures s slot still awaits (chosen ∙ ap (furthest (a .row .now)) (still .1)))
 
 pub choose-spec : {M : Type 1} → statement M
 choose-spec =

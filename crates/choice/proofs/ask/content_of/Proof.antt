@@ -1,6 +1,7 @@
 -- A read past the end gives 0.
+use Prim.Native.Nat.{_≤_}
 use mathlib.Core.Path.{sym}
-use lib.ListN.{List·getD-eq-default}
+use lib.ListN.{length, List·getD-eq-default}
 use borrow.Author.Needs.{needs}
 use Rattle.choice.proofs.ask.content_of.Statement.{statement}
 use Rattle.choice.proofs.ask.content_of.Tie as tie
@@ -15,7 +16,10 @@ returns : tie.Need-returns
 returns c = search needs
 
 returns-2 : tie.Need-returns-2
-returns-2 c = sym (List·getD-eq-default (c .before .args .slots .now) 0 (c .if1 .left))
+returns-2 c =
+    let s : tie.Start = search in
+    let past : length (s .args .slots .now) ≤ s .args .slot = search in
+    sym (List·getD-eq-default (s .args .slots .now) 0 past)
 
 pub content-of-spec : {M : Type 1} → statement M
 content-of-spec = tie.close (tie.spec mul-result shared-slice-read-result returns returns-2)

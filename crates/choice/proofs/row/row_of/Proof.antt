@@ -43,18 +43,24 @@ loop-less c = omega arith
 
 loop-again : tie.Need-loop-again Inv-loop μ-loop
 loop-again c =
-    let a = c .before .before .before .before .before .args in
-    let l = c .before .before .before .loop in (
+    let after : tie.After-draw-symbol Inv-loop μ-loop = search in
+    let s : tie.Start Inv-loop μ-loop = search in
+    let p : tie.At-loop Inv-loop μ-loop = search in
+    let d : tie.After-draw-at Inv-loop μ-loop = search in
+    let a = s .args in
+    let l = p .loop in (
       omega arith,
-      length-set (l .row) (l .place) (c .draw-symbol .result) ∙ l .inv .1,
-      copied-more (a .plan) (a .job .now) (a .slots) (a .draws) (l .row) (l .place) (c .before .draw-at .result) (c .draw-symbol .result)
-          (omega arith) (c .before .before .loop-test .taken) (c .before .draw-at .ensures) (c .draw-symbol .ensures) (l .inv .2),
+      length-set (l .row) (l .place) (after .draw-symbol .result) ∙ l .inv .1,
+      copied-more (a .plan) (a .job .now) (a .slots) (a .draws) (l .row) (l .place) (d .draw-at .result) (after .draw-symbol .result)
+          (omega arith) (search) (d .draw-at .ensures) (after .draw-symbol .ensures) (l .inv .2),
     )
 
 returns : tie.Need-returns Inv-loop μ-loop
 returns c =
-    let a = c .before .before .before .args in
-    let l = c .before .loop in
+    let s : tie.Start Inv-loop μ-loop = search in
+    let p : tie.At-loop Inv-loop μ-loop = search in
+    let a = s .args in
+    let l = p .loop in
     let whole : l .place ≡ a .draws = omega arith in
     copied-all (a .plan) (a .job .now) (a .slots) (a .draws) (l .row) (rw whole at (l .inv .2))
 

@@ -1,4 +1,5 @@
--- The slots left to look at give what all give. The inner search stands at a place before which the symbol does not come up, and each of its three ways out yields the rank.
+-- The slots left to look at give what all give. The inner search stands at a place before which the symbol does not come up, and each of
+-- its three ways out yields the rank.
 use Prim.Native.Nat.{ℕ, suc, _+_, _-_, _≤_}
 use native.Mathlib.Omega.{arith}
 use mathlib.Core.List.{List}
@@ -27,7 +28,9 @@ abbrev μ-loop : tie.MeasureT-loop
 μ-loop slots row best₀ far₀ slot₀ best far slot = length slots - slot
 
 loop-holds : tie.Need-loop-holds Inv-loop2 μ-loop2 Inv-loop μ-loop
-loop-holds c = (omega arith, left-all (c .args .row .now) (c .args .slots .now))
+loop-holds c =
+    let s : tie.Start Inv-loop2 μ-loop2 Inv-loop μ-loop = search in
+    (omega arith, left-all (s .args .row .now) (s .args .slots .now))
 
 cast-loop : tie.Need-cast-loop Inv-loop2 μ-loop2 Inv-loop μ-loop
 cast-loop c = omega arith
@@ -59,13 +62,34 @@ add-at c = omega arith
 loop2-less : tie.Need-loop2-less Inv-loop2 μ-loop2 Inv-loop μ-loop
 loop2-less c = omega arith
 
+-- A turn of the inner search: the content of a slot, and the place up to which it does not come up.
+module _ (p : tie.At-loop2 Inv-loop2 μ-loop2 Inv-loop μ-loop) where
+  abbrev at-loop : tie.At-loop Inv-loop2 μ-loop2 Inv-loop μ-loop
+  at-loop = search
+
+  abbrev at-start : tie.Start Inv-loop2 μ-loop2 Inv-loop μ-loop
+  at-start = search
+
+  abbrev row : List ℕ
+  row = at-start .args .row .now
+
+  abbrev slots : List ℕ
+  slots = at-start .args .slots .now
+
+  abbrev symbol : ℕ
+  symbol = getD slots (at-loop .loop .slot) 0
+
+  abbrev at : ℕ
+  at = p .loop2 .at
+
+  met : Met row slots symbol at
+  met = p .loop2 .inv .1
+
 loop2-again : tie.Need-loop2-again Inv-loop2 μ-loop2 Inv-loop μ-loop
 loop2-again c =
-    let a = c .before .before .before .before .before .before .before .before .args in
-    let at = c .before .before .before .before .loop2 .at in
-    let symbol : ℕ = getD (a .slots .now) (c .before .before .before .before .before .before .before .loop .slot) 0 in
-    let further : place symbol (drop at (a .row .now)) ≡ suc (place symbol (drop (at + 1) (a .row .now))) =
-    place-further symbol (a .row .now) at (c .before .before .if2 .left) (c .if3 .left) in
+    let p : tie.At-loop2 Inv-loop2 μ-loop2 Inv-loop μ-loop = search in
+    let further : place (symbol p) (drop (at p) (row p)) ≡ suc (place (symbol p) (drop (at p + 1) (row p))) =
+    place-further (symbol p) (row p) (at p) (search) search in
     (omega arith, omega arith)
 
 add-slot : tie.Need-add-slot Inv-loop2 μ-loop2 Inv-loop μ-loop
@@ -74,35 +98,54 @@ add-slot c = omega arith
 loop-less : tie.Need-loop-less Inv-loop2 μ-loop2 Inv-loop μ-loop
 loop-less c = omega arith
 
+-- The inner search has ended, and its answer is the rank of what the slot holds.
+module _ (j : tie.Joined1 Inv-loop2 μ-loop2 Inv-loop μ-loop) where
+  abbrev at-search : tie.At-loop2 Inv-loop2 μ-loop2 Inv-loop μ-loop
+  at-search = search
+
+  abbrev found : ℕ
+  found = j .if1 .rank
+
+  ranked : found ≡ rank (row at-search) (symbol at-search)
+  ranked =
+      let p = at-search in
+      ⊎-elim
+      (λ w. let is : found ≡ length (row p) + 1 = search in is ∙ rank-free (row p) (slots p) (symbol p) search)
+      (λ w. ⊎-elim
+      (λ w. let is : found ≡ at p = search in is ∙ rank-past (row p) (slots p) (symbol p) (at p) (search) (search) (met p))
+      (λ w. let is : found ≡ at p = search in is ∙ rank-found (row p) (slots p) (symbol p) (at p) (search) (search) (search) (met p))
+      w)
+      (j .if1 .came)
+
 loop-again : tie.Need-loop-again Inv-loop2 μ-loop2 Inv-loop μ-loop
 loop-again c =
-    let a = c .before .before .before .before .before .before .args in
-    let l = c .before .before .before .before .before .loop in
-    let row : List ℕ = a .row .now in
-    let slots : List ℕ = a .slots .now in
-    let symbol : ℕ = getD slots (l .slot) 0 in
-    let walk = c .before .before .loop2 in
-    let ranked : c .before .if1 .rank ≡ rank row symbol =
-    ⊎-elim
-    (λ w. w .1 ∙ rank-free row slots symbol (w .0 .taken))
-    (λ w. ⊎-elim
-    (λ w. w .2 ∙ rank-past row slots symbol (walk .at) (w .0 .left) (w .1 .taken) (walk .inv .1))
-    (λ w. w .4 ∙ rank-found row slots symbol (walk .at) (w .0 .left) (w .1 .left) (w .3 .taken) (walk .inv .1))
-    w)
-    (c .before .if1 .came) in (
+    let j : tie.Joined1 Inv-loop2 μ-loop2 Inv-loop μ-loop = search in
+    let p = at-search j in
+    let l = at-loop p .loop in
+    let r = found j in
+    let chosen = c .if4 in (
       omega arith,
       ⊎-elim
-          (λ w. rw (w .1, w .2) (left-more row slots (l .best) (l .far) (l .slot) (c .before .if1 .rank) (omega arith) ranked (w .0 .taken) (l .inv .1)))
-          (λ w. rw (w .1, w .2) (left-same row slots (l .best) (l .far) (l .slot) (c .before .if1 .rank) (omega arith) ranked (w .0 .left) (l .inv .1)))
-          (c .if4 .came),
+          (λ w.
+          let best : chosen .best ≡ l .slot = search in
+          let far : chosen .far ≡ r = search in
+          rw (best, far) (left-more (row p) (slots p) (l .best) (l .far) (l .slot) r (omega arith) (ranked j) (search) (l .inv .1)))
+          (λ w.
+          let best : chosen .best ≡ l .best = search in
+          let far : chosen .far ≡ l .far = search in
+          rw (best, far) (left-same (row p) (slots p) (l .best) (l .far) (l .slot) r (omega arith) (ranked j) (search) (l .inv .1)))
+          (chosen .came),
     )
 
 returns : tie.Need-returns Inv-loop2 μ-loop2 Inv-loop μ-loop
 returns c =
-    let a = c .before .before .args in
-    let l = c .before .loop in
-    let best : furthest (a .row .now) (a .slots .now) ≡ l .best = left-none (a .row .now) (a .slots .now) (l .best) (l .far) (l .slot) (c .loop-test .left) (l .inv .1) in
-    (sym best, rw best at (chosen-below (a .row .now) (a .slots .now) (c .before .before .pre .0)))
+    let s : tie.Start Inv-loop2 μ-loop2 Inv-loop μ-loop = search in
+    let p : tie.At-loop Inv-loop2 μ-loop2 Inv-loop μ-loop = search in
+    let l = p .loop in
+    let row = s .args .row .now in
+    let slots = s .args .slots .now in
+    let best : furthest row slots ≡ l .best = left-none row slots (l .best) (l .far) (l .slot) (search) (l .inv .1) in
+    (sym best, rw best at (chosen-below row slots (s .pre .0)))
 
 pub furthest-spec : {M : Type 1} → statement M
 furthest-spec =

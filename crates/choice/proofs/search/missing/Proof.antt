@@ -1,7 +1,8 @@
 -- Every draw passed is served by a slot, so what is left gives what the whole row gives.
-use Prim.Native.Nat.{suc, _+_, _-_, _≤_}
+use Prim.Native.Nat.{ℕ, suc, _+_, _-_, _<_, _≤_}
 use native.Mathlib.Omega.{arith}
 use mathlib.Core.Bool.{true, false}
+use mathlib.Core.List.{List}
 use mathlib.Core.Path.{_≡_, refl}
 use lib.ListN.{length, getD, drop}
 use borrow.Author.Needs.{needs}
@@ -30,14 +31,32 @@ shared-slice-read-find c = omega arith
 find-requires : tie.Need-find-requires Inv-loop μ-loop
 find-requires c κs = search needs
 
+-- A draw's turn: the search for its symbol among the slots.
+module _ (p : tie.After-find Inv-loop μ-loop) where
+  abbrev at-loop : tie.At-loop Inv-loop μ-loop
+  at-loop = search
+
+  abbrev at-start : tie.Start Inv-loop μ-loop
+  at-start = search
+
+  abbrev slots : List ℕ
+  slots = at-start .args .slots .now
+
+  abbrev rest : List ℕ
+  rest = at-start .args .rest .now
+
+  abbrev at : ℕ
+  at = at-loop .loop .at
+
+  within : at < length rest
+  within = search
+
 returns : tie.Need-returns Inv-loop μ-loop
 returns c =
-    let a = c .before .before .before .before .before .before .before .args in
-    let l = c .before .before .before .before .loop in
-    let absent : stands (getD (a .rest .now) (l .at) 0) (a .slots .now) ≡ false =
-    missed-stands _ (a .slots .now) (c .before .find .result) (length (a .slots .now)) (c .before .find .ensures .0) refl (omega arith) in
-    let stops : missing (a .slots .now) (drop (l .at) (a .rest .now)) ≡ 0 =
-    missing-here (a .slots .now) (a .rest .now) (l .at) (c .before .before .before .loop-test .taken) absent in
+    let p : tie.After-find Inv-loop μ-loop = search in
+    let absent : stands (getD (rest p) (at p) 0) (slots p) ≡ false =
+    missed-stands _ (slots p) (p .find .result) (length (slots p)) (p .find .ensures .0) refl (omega arith) in
+    let stops : missing (slots p) (drop (at p) (rest p)) ≡ 0 = missing-here (slots p) (rest p) (at p) (within p) absent in
     (omega arith, omega arith)
 
 add-at : tie.Need-add-at Inv-loop μ-loop
@@ -48,20 +67,20 @@ loop-less c = omega arith
 
 loop-again : tie.Need-loop-again Inv-loop μ-loop
 loop-again c =
-    let a = c .before .before .before .before .before .before .before .args in
-    let l = c .before .before .before .before .loop in
-    let held : stands (getD (a .rest .now) (l .at) 0) (a .slots .now) ≡ true =
-    found-stands _ (a .slots .now) (c .before .find .result) (length (a .slots .now)) (c .before .find .ensures .0) refl (omega arith) in
-    let goes : missing (a .slots .now) (drop (l .at) (a .rest .now)) ≡ suc (missing (a .slots .now) (drop (l .at + 1) (a .rest .now))) =
-    missing-further (a .slots .now) (a .rest .now) (l .at) (c .before .before .before .loop-test .taken) held in
+    let p : tie.After-find Inv-loop μ-loop = search in
+    let held : stands (getD (rest p) (at p) 0) (slots p) ≡ true =
+    found-stands _ (slots p) (p .find .result) (length (slots p)) (p .find .ensures .0) refl (omega arith) in
+    let goes : missing (slots p) (drop (at p) (rest p)) ≡ suc (missing (slots p) (drop (at p + 1) (rest p))) =
+    missing-further (slots p) (rest p) (at p) (within p) held in
     (omega arith, omega arith)
 
 returns-2 : tie.Need-returns-2 Inv-loop μ-loop
 returns-2 c =
-    let a = c .before .before .before .before .args in
-    let l = c .before .loop in
-    let stops : missing (a .slots .now) (drop (l .at) (a .rest .now)) ≡ 0 =
-    missing-past (a .slots .now) (a .rest .now) (l .at) (c .loop-test .left) in
+    let s : tie.Start Inv-loop μ-loop = search in
+    let p : tie.At-loop Inv-loop μ-loop = search in
+    let a = s .args in
+    let stops : missing (a .slots .now) (drop (p .loop .at) (a .rest .now)) ≡ 0 =
+    missing-past (a .slots .now) (a .rest .now) (p .loop .at) search in
     (omega arith, omega arith)
 
 pub missing-spec : {M : Type 1} → statement M

@@ -1,6 +1,7 @@
 -- `find` meets its contract: at each turn the place in what is left, counted from the whole row's start, is the place in the whole row.
-use Prim.Native.Nat.{suc, _+_, _-_, _≤_}
+use Prim.Native.Nat.{ℕ, suc, _+_, _-_, _<_, _≤_}
 use native.Mathlib.Omega.{arith}
+use mathlib.Core.List.{List}
 use mathlib.Core.Path.{_≡_}
 use lib.ListN.{length, drop}
 use borrow.Author.Needs.{needs}
@@ -24,12 +25,30 @@ mul-if1 c = search needs
 shared-slice-read-if1 : tie.Need-shared-slice-read-if1 Inv-loop μ-loop
 shared-slice-read-if1 c = omega arith
 
+-- A turn of the loop, at a slot of the row.
+module _ (p : tie.In-loop Inv-loop μ-loop) where
+  abbrev at-loop : tie.At-loop Inv-loop μ-loop
+  at-loop = search
+
+  abbrev at-start : tie.Start Inv-loop μ-loop
+  at-start = search
+
+  abbrev slots : List ℕ
+  slots = at-start .args .slots .now
+
+  abbrev symbol : ℕ
+  symbol = at-start .args .symbol
+
+  abbrev slot : ℕ
+  slot = at-loop .loop .slot
+
+  there : slot < length slots
+  there = search
+
 returns : tie.Need-returns Inv-loop μ-loop
 returns c =
-    let a = c .before .before .before .before .args in
-    let l = c .before .before .before .loop in
-    let here : place (a .symbol) (drop (l .slot) (a .slots .now)) ≡ 0 =
-    place-here (a .symbol) (a .slots .now) (l .slot) (c .before .before .loop-test .taken) (c .if1 .taken) in
+    let p : tie.In-loop Inv-loop μ-loop = search in
+    let here : place (symbol p) (drop (slot p) (slots p)) ≡ 0 = place-here (symbol p) (slots p) (slot p) (there p) search in
     omega arith
 
 add-slot : tie.Need-add-slot Inv-loop μ-loop
@@ -40,18 +59,17 @@ loop-less c = omega arith
 
 loop-again : tie.Need-loop-again Inv-loop μ-loop
 loop-again c =
-    let a = c .before .before .before .before .args in
-    let l = c .before .before .before .loop in
-    let further : place (a .symbol) (drop (l .slot) (a .slots .now)) ≡ suc (place (a .symbol) (drop (l .slot + 1) (a .slots .now))) =
-    place-further (a .symbol) (a .slots .now) (l .slot) (c .before .before .loop-test .taken) (c .if1 .left) in
+    let p : tie.In-loop Inv-loop μ-loop = search in
+    let further : place (symbol p) (drop (slot p) (slots p)) ≡ suc (place (symbol p) (drop (slot p + 1) (slots p))) =
+    place-further (symbol p) (slots p) (slot p) (there p) search in
     (omega arith, omega arith)
 
 returns-2 : tie.Need-returns-2 Inv-loop μ-loop
 returns-2 c =
-    let a = c .before .before .args in
-    let l = c .before .loop in
-    let past : place (a .symbol) (drop (l .slot) (a .slots .now)) ≡ 0 =
-    place-past (a .symbol) (a .slots .now) (l .slot) (c .loop-test .left) in
+    let s : tie.Start Inv-loop μ-loop = search in
+    let p : tie.At-loop Inv-loop μ-loop = search in
+    let past : place (s .args .symbol) (drop (p .loop .slot) (s .args .slots .now)) ≡ 0 =
+    place-past (s .args .symbol) (s .args .slots .now) (p .loop .slot) search in
     omega arith
 
 pub find-spec : {M : Type 1} → statement M

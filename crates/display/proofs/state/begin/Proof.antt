@@ -14,7 +14,9 @@ enum-told : tie.Need-enum-told
 enum-told c = search needs
 
 returns : tie.Need-returns
-returns c = λ h job e. simp (c .enum-told .given .1)
+returns c =
+    let told : tie.After-enum-told = search in
+    λ h job e. simp (told .enum-told .given .1)
 
 cast-put : tie.Need-cast-put
 cast-put c = search needs
@@ -33,12 +35,14 @@ same-length c = search needs
 
 returns-2 : tie.Need-returns-2
 returns-2 c =
-    let a = c .before .before .before .before .before .before .before .before .before .args in
-    let pre = c .before .before .before .before .before .before .before .before .before .pre in
-    let load = c .before .before .before .before .before .before .asked .given in
+    let s : tie.Start = search in
+    let p : tie.After-asked = search in
+    let q : tie.After-put = search in
+    let time = s .args .time in
+    let load = p .asked .given in
     λ h job e.
-    let some : a .time ≡ 0 → ⊥ = λ none. let one : 1 ≤ a .time = pre .0 in omega arith in
-    simp (load .1, c .before .before .before .put .ensures, under-way (a .time) (load .0 .0) (load .0 .1 .0) some, e)
+    let some : time ≡ 0 → ⊥ = λ none. let one : 1 ≤ time = s .pre .0 in omega arith in
+    simp (load .1, q .put .ensures, under-way time (load .0 .0) (load .0 .1 .0) some, e)
 
 pub begin-spec : {M : Type 1} → statement M
 begin-spec =

@@ -1,7 +1,7 @@
 -- `land` meets its contract: no load is under way, or one ends, or it comes nearer to its end.
 use Prim.Native.Nat.{ℕ}
 use mathlib.Core.List.{List}
-use mathlib.Core.Path.{ap, _∙_}
+use mathlib.Core.Path.{_≡_, ap, _∙_}
 use lib.ListN.{set}
 use borrow.Author.Needs.{needs}
 use Rattle.display.specs.View.{view}
@@ -10,7 +10,9 @@ use Rattle.display.proofs.state.land.Statement.{statement}
 use Rattle.display.proofs.state.land.Tie as tie
 
 returns : tie.Need-returns
-returns c = λ h. idle-lands (c .before .before .before .args .slots .now) h (c .before .before .before .args .d) (c .if1 .taken)
+returns c =
+    let s : tie.Start = search in
+    λ h. idle-lands (s .args .slots .now) h (s .args .d) search
 
 put-requires : tie.Need-put-requires
 put-requires c κs = search needs
@@ -21,20 +23,33 @@ nearer-requires c κs = search needs
 same-length : tie.Need-same-length
 same-length c = search needs
 
+-- The load under way has ended, and its symbol is in its slot.
+module _ (p : tie.After-put) where
+  abbrev at-start : tie.Start
+  at-start = search
+
+  ended : at-start .args .d .until ≡ 1
+  ended = search
+
 returns-2 : tie.Need-returns-2
 returns-2 c =
-    let a = c .before .before .before .before .before .before .before .before .before .before .args in
+    let after : tie.After-nearer = search in
+    let p : tie.After-put = search in
+    let a = at-start p .args in
     λ h.
-    ap (λ (slots : List ℕ). view slots h (c .nearer .result)) (c .before .before .before .put .ensures) ∙ ap (view (set (a .slots .now) (a .d .into) (a .d .what)) h) (c .nearer .ensures)
-    ∙ ended-lands (a .slots .now) h (a .d) (c .before .before .before .before .before .if2 .taken)
+    ap (λ (slots : List ℕ). view slots h (after .nearer .result)) (p .put .ensures)
+    ∙ ap (view (set (a .slots .now) (a .d .into) (a .d .what)) h) (after .nearer .ensures)
+    ∙ ended-lands (a .slots .now) h (a .d) (ended p)
 
 nearer-requires-2 : tie.Need-nearer-requires-2
 nearer-requires-2 c κs = search needs
 
 returns-3 : tie.Need-returns-3
 returns-3 c =
-    let a = c .before .before .before .before .before .before .args in
-    λ h. ap (view (a .slots .now) h) (c .nearer2 .ensures) ∙ nearer-lands (a .slots .now) h (a .d) (c .before .if2 .left)
+    let after : tie.After-nearer2 = search in
+    let s : tie.Start = search in
+    let a = s .args in
+    λ h. ap (view (a .slots .now) h) (after .nearer2 .ensures) ∙ nearer-lands (a .slots .now) h (a .d) search
 
 pub land-spec : {M : Type 1} → statement M
 land-spec =

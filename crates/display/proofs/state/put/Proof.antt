@@ -19,7 +19,9 @@ returns : tie.Need-returns
 returns c = search needs
 
 returns-2 : tie.Need-returns-2
-returns-2 c = sym (set-out (c .before .args .slots .now) (c .before .args .slot) (c .before .args .content) (omega arith))
+returns-2 c =
+    let s : tie.Start = search in
+    sym (set-out (s .args .slots .now) (s .args .slot) (s .args .content) (omega arith))
 
 pub put-spec : {M : Type 1} → statement M
 put-spec = tie.close (tie.spec mul-slots slice-write-slots same-length returns returns-2)

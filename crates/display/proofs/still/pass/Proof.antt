@@ -13,7 +13,9 @@ less-requires : tie.Need-less-requires
 less-requires c κs = search needs
 
 returns : tie.Need-returns
-returns c = simp (c .less .ensures)
+returns c =
+    let after : tie.After-less = search in
+    simp (after .less .ensures)
 
 pub pass-spec : {M : Type 1} → statement M
 pass-spec = tie.close (tie.spec add-t3 add-t4 less-requires returns)

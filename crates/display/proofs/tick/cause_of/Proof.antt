@@ -1,4 +1,5 @@
 -- `cause_of` meets its contract: the two symbols are compared where a load is under way.
+use mathlib.Core.Path.{_≡_}
 use borrow.Author.Needs.{needs}
 use borrow.Author.Tests.{eq-eqb, ne-eqb}
 use Rattle.display.proofs.Views.{under-way}
@@ -10,13 +11,19 @@ returns c = search needs
 
 returns-2 : tie.Need-returns-2
 returns-2 c =
-    let d = c .before .before .before .before .args .d in
-    simp (under-way (d .until) (d .into) (d .what) (c .before .before .if1 .left), eq-eqb _ _ (c .if2 .taken))
+    let s : tie.Start = search in
+    let d = s .args .d in
+    let busy : d .until ≡ 0 → ⊥ = search in
+    let same : s .args .symbol ≡ d .what = search in
+    simp (under-way (d .until) (d .into) (d .what) busy, eq-eqb _ _ same)
 
 returns-3 : tie.Need-returns-3
 returns-3 c =
-    let d = c .before .before .before .before .args .d in
-    simp (under-way (d .until) (d .into) (d .what) (c .before .before .if1 .left), ne-eqb _ _ (c .if2 .left))
+    let s : tie.Start = search in
+    let d = s .args .d in
+    let busy : d .until ≡ 0 → ⊥ = search in
+    let other : s .args .symbol ≡ d .what → ⊥ = search in
+    simp (under-way (d .until) (d .into) (d .what) busy, ne-eqb _ _ other)
 
 pub cause-of-spec : {M : Type 1} → statement M
 cause-of-spec = tie.close (tie.spec returns returns-2 returns-3)

@@ -1,5 +1,7 @@
 -- `happening_of` meets its contract: a slot was found, or none was.
+use Prim.Native.Nat.{_<_, _≤_}
 use mathlib.Core.Path.{refl, ap}
+use lib.ListN.{length}
 use borrow.Author.Needs.{needs}
 use Rattle.rules.specs.declared.Happening.the-variants.{Draw, Wait}
 use Rattle.laws.proofs.Places.{found-stands, missed-stands}
@@ -13,13 +15,22 @@ cast-t7 : tie.Need-cast-t7
 cast-t7 c = search needs
 
 returns : tie.Need-returns
-returns c = simp (found-stands _ _ _ _ (c .before .find .ensures .0) refl (c .if1 .taken)) (ap Draw (c .before .find .ensures .0))
+returns c =
+    let s : tie.Start = search in
+    let f : tie.After-find = search in
+    let found : f .find .result < length (s .args .slots .now) = search in
+    simp (found-stands _ _ _ _ (f .find .ensures .0) refl found) (ap Draw (f .find .ensures .0))
 
 cause-of-requires : tie.Need-cause-of-requires
 cause-of-requires c κs = search needs
 
 returns-2 : tie.Need-returns-2
-returns-2 c = simp (missed-stands _ _ _ _ (c .before .before .find .ensures .0) refl (c .before .if1 .left)) (ap Wait (c .cause-of .ensures))
+returns-2 c =
+    let after : tie.After-cause-of = search in
+    let s : tie.Start = search in
+    let f : tie.After-find = search in
+    let missed : length (s .args .slots .now) ≤ f .find .result = search in
+    simp (missed-stands _ _ _ _ (f .find .ensures .0) refl missed) (ap Wait (after .cause-of .ensures))
 
 pub happening-of-spec : {M : Type 1} → statement M
 happening-of-spec = tie.close (tie.spec find-requires cast-t7 returns cause-of-requires returns-2)

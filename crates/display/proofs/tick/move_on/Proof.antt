@@ -16,10 +16,16 @@ wait-requires : tie.Need-wait-requires
 wait-requires c κs = search needs
 
 returns : tie.Need-returns
-returns c = λ slots h. simp (c .before .enum-told .given .1) (c .draw .ensures slots h (c .before .enum-told .given .0 .0))
+returns c =
+    let after : tie.After-draw = search in
+    let told : tie.After-enum-told = search in
+    λ slots h. simp (told .enum-told .given .1) (after .draw .ensures slots h (told .enum-told .given .0 .0))
 
 returns-2 : tie.Need-returns-2
-returns-2 c = λ slots h. simp (c .before .enum-told2 .given .1) (c .wait .ensures slots h)
+returns-2 c =
+    let after : tie.After-wait = search in
+    let told : tie.After-enum-told2 = search in
+    λ slots h. simp (told .enum-told2 .given .1) (after .wait .ensures slots h)
 
 pub move-on-spec : {M : Type 1} → statement M
 move-on-spec =

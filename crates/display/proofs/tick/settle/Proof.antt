@@ -1,5 +1,6 @@
 -- `settle` meets its contract: what happens is refused where it is stuck, and moves the display on where it is not.
-use mathlib.Core.Path.{sym, _∙_}
+use mathlib.Core.Bool.{true, false}
+use mathlib.Core.Path.{_≡_, sym, _∙_}
 use borrow.Author.Needs.{needs}
 use Rattle.display.proofs.Ticks.{settled-refused, settled-went}
 use Rattle.display.proofs.tick.settle.Statement.{statement}
@@ -16,22 +17,28 @@ cast-t10 c = search needs
 
 returns : tie.Need-returns
 returns c =
-    let a = c .before .before .before .before .before .args in
-    settled-refused (a .slots .now) (a .d) (a .asked) (a .symbol) (a .done) (c .before .before .before .happening-of .result)
-    (c .before .before .before .happening-of .ensures)
-    (sym (c .before .before .is-stuck .ensures) ∙ c .before .if1 .taken)
+    let s : tie.Start = search in
+    let h : tie.After-happening-of = search in
+    let k : tie.After-is-stuck = search in
+    let a = s .args in
+    let stuck : k .is-stuck .result ≡ true = search in
+    settled-refused (a .slots .now) (a .d) (a .asked) (a .symbol) (a .done) (h .happening-of .result) (h .happening-of .ensures)
+    (sym (k .is-stuck .ensures) ∙ stuck)
 
 move-on-requires : tie.Need-move-on-requires
 move-on-requires c κs = search needs
 
 returns-2 : tie.Need-returns-2
 returns-2 c =
-    let a = c .before .before .before .before .before .args in
-    settled-went (a .slots .now) (a .d) (a .asked) (a .symbol) (a .done) (c .before .before .before .happening-of .result)
-    (c .before .before .before .happening-of .ensures)
-    (sym (c .before .before .is-stuck .ensures) ∙ c .before .if1 .left)
-    (c .move-on .result)
-    (c .move-on .ensures (a .slots .now))
+    let after : tie.After-move-on = search in
+    let s : tie.Start = search in
+    let h : tie.After-happening-of = search in
+    let k : tie.After-is-stuck = search in
+    let a = s .args in
+    let stuck : k .is-stuck .result ≡ false = search in
+    settled-went (a .slots .now) (a .d) (a .asked) (a .symbol) (a .done) (h .happening-of .result) (h .happening-of .ensures)
+    (sym (k .is-stuck .ensures) ∙ stuck)
+    (after .move-on .result) (after .move-on .ensures (a .slots .now))
 
 pub settle-spec : {M : Type 1} → statement M
 settle-spec =

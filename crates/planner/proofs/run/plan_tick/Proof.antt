@@ -131,12 +131,13 @@ module _ (p : tie.After-load-number) where
 
 returns : tie.Need-returns
 returns c =
+    let after : tie.After-refused-load = search in
     let n : tie.After-load-number = search in
     let p = at-land n in
     let some : n .load-number .result ≡ 0 → ⊥ = search in
     ticks-refused (jobOf (job p)) (rule p) (held p) (held₁ p) (d p) (l p) (lands p) (asked n) (asks n) (n .load-number .result) (numbered n) some
-    (c .refused-load .result) (ap (λ (t : Ticked). t .number) (c .refused-load .ensures))
-    (ap (λ (t : Ticked). t .detail) (c .refused-load .ensures))
+    (after .refused-load .result) (ap (λ (t : Ticked). t .number) (after .refused-load .ensures))
+    (ap (λ (t : Ticked). t .detail) (after .refused-load .ensures))
 
 begin-requires : tie.Need-begin-requires
 begin-requires c κs =
@@ -180,6 +181,7 @@ same-length-2 c =
 
 returns-2 : tie.Need-returns-2
 returns-2 c =
+    let after : tie.After-settle = search in
     let b : tie.After-begin = search in
     let n = at-number b in
     let p = at-land n in
@@ -187,7 +189,7 @@ returns-2 c =
     (none b) (b .begin .last .0) (b .begin .result) (begins b) (symbol n)
     (landed-awaits (held p) (held₁ p) (d p) (l p) (lands p) (job p) (shape p) (symbol n) (limits p .shaped) (within p)
     (at-draw-symbol n .draw-symbol .ensures))
-    true (λ h. refl) (c .settle .result) (c .settle .ensures)
+    true (λ h. refl) (after .settle .result) (after .settle .ensures)
 
 pub plan-tick-spec : {M : Type 1} → statement M
 plan-tick-spec =

@@ -37,6 +37,7 @@ returns c =
 
 returns-2 : tie.Need-returns-2
 returns-2 c =
+    let after : tie.After-pass = search in
     let s : tie.Start = search in
     let waits : tie.After-enum-told2 = search in
     let ends : tie.After-before-end = search in
@@ -48,7 +49,7 @@ returns-2 c =
     let early : d .tick ≤ last-tick = s .pre .0 in
     record {
       many = n;
-      passes = c .pass .ensures;
+      passes = after .pass .ensures;
       in-time = omega arith;
       behind = λ some. ap waiting (waits .enum-told2 .given .1);
       still = record { before-end = λ ends. omega arith; under-way = λ some. omega arith };

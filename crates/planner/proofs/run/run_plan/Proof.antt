@@ -42,12 +42,13 @@ start-requires c κs = search needs
 
 loop-holds : tie.Need-loop-holds Inv-loop μ-loop
 loop-holds c =
+    let after : tie.After-start Inv-loop μ-loop = search in
     let s : tie.Start Inv-loop μ-loop = search in
     let a = s .args in (
       refl,
       before-all (jobOf (a .job .now)),
-      walking-first (a .job .now) (ruleOf (jobOf (a .job .now)) (a .plan)) (a .held .now) (c .start .result) (s .pre .0 .starts) (c .start .ensures),
-      rw (c .start .ensures) (held-start (a .ticks .now) (a .draws .now) (a .slots .now) (a .symbols .now) (s .pre .1)),
+      walking-first (a .job .now) (ruleOf (jobOf (a .job .now)) (a .plan)) (a .held .now) (after .start .result) (s .pre .0 .starts) (after .start .ensures),
+      rw (after .start .ensures) (held-start (a .ticks .now) (a .draws .now) (a .slots .now) (a .symbols .now) (s .pre .1)),
     )
 
 -- A turn of the loop: the job, the plan's rule, and what the loop has kept.
@@ -180,16 +181,18 @@ rest-of-requires c κs =
 
 loop-less : tie.Need-loop-less Inv-loop μ-loop
 loop-less c =
+    let after : tie.After-rest-of Inv-loop μ-loop = search in
     let w : tie.After-later Inv-loop μ-loop = search in
     let n = at-note w in
     let soon = early (at-tick n) in
     let more = one-more n in
-    let further : c .rest-of .result .tick ≡ ticked (at-tick n) .display .tick + c .rest-of .ensures .many =
-    ap (λ (e : Display). e .tick) (c .rest-of .ensures .passes) in
+    let further : after .rest-of .result .tick ≡ ticked (at-tick n) .display .tick + after .rest-of .ensures .many =
+    ap (λ (e : Display). e .tick) (after .rest-of .ensures .passes) in
     omega arith
 
 loop-again : tie.Need-loop-again Inv-loop μ-loop
 loop-again c =
+    let after : tie.After-rest-of Inv-loop μ-loop = search in
     let w : tie.After-later Inv-loop μ-loop = search in
     let n = at-note w in
     let t = at-tick n in
@@ -197,14 +200,14 @@ loop-again c =
     let l = p .loop in
     let h = beside p in
     let r = ticked t in
-    let on : Walking (job p) (rule p) (held′ t) (c .rest-of .result) (onward (l .d) (r .on_record) h) =
-    walking-on (job p) (rule p) (l .held) (l .d) h (walking p) (within t) (early t) (held′ t) r (ticks t) (went n) (c .rest-of .result)
-    (c .rest-of .ensures) (calm (plan p) (job p) (held′ t) (onward (l .d) (r .on_record) h) (r .display)) in
+    let on : Walking (job p) (rule p) (held′ t) (after .rest-of .result) (onward (l .d) (r .on_record) h) =
+    walking-on (job p) (rule p) (l .held) (l .d) h (walking p) (within t) (early t) (held′ t) r (ticks t) (went n) (after .rest-of .result)
+    (after .rest-of .ensures) (calm (plan p) (job p) (held′ t) (onward (l .d) (r .on_record) h) (r .display)) in
     let noted = n .note .ensures in (
       t .plan-tick .kept .1 .1 .1 .1 .0 ∙ l .inv .0,
       onward (l .d) (r .on_record) h,
       on,
-      held-on (l .d) (r .on_record) h (c .rest-of .result .loads) (l .ticks) (l .draws) (l .slots) (l .symbols) _ _ _ _ (walking p .listed)
+      held-on (l .d) (r .on_record) h (after .rest-of .result .loads) (l .ticks) (l .draws) (l .slots) (l .symbols) _ _ _ _ (walking p .listed)
           (on .listed) (noted .0) (noted .1 .0) (noted .1 .1 .0) (noted .1 .1 .1) (kept p),
     )
 
@@ -212,16 +215,17 @@ same-length : tie.Need-same-length Inv-loop μ-loop
 same-length c =
     let p : tie.At-loop Inv-loop μ-loop = search in
     let j : tie.Joined1 Inv-loop μ-loop = search in
+    let way = j .if1 in
     ⊎-elim
-    (λ v. let same : j .if1 .held ≡ p .loop .held = search in ap length same ∙ p .loop .inv .0)
+    (λ v. let same : way .held ≡ p .loop .held = search in ap length same ∙ p .loop .inv .0)
     (λ v. ⊎-elim
-    (λ v. let same : j .if1 .held ≡ p .loop .held = search in ap length same ∙ p .loop .inv .0)
+    (λ v. let same : way .held ≡ p .loop .held = search in ap length same ∙ p .loop .inv .0)
     (λ v.
     let t : tie.After-plan-tick Inv-loop μ-loop = search in
-    let same : j .if1 .held ≡ held′ t = search in
+    let same : way .held ≡ held′ t = search in
     ap length same ∙ t .plan-tick .kept .1 .1 .1 .1 .0 ∙ p .loop .inv .0)
     v)
-    (j .if1 .came)
+    (way .came)
 
 same-length-2 : tie.Need-same-length-2 Inv-loop μ-loop
 same-length-2 c =

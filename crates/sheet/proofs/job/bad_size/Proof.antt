@@ -28,7 +28,10 @@ add-result-2 : tie.Need-add-result-2
 add-result-2 c = search needs
 
 returns : tie.Need-returns
-returns c = simp (c .before .before .number32-at .ensures, c .before .before .before .shape-of .ensures)
+returns c =
+    let n : tie.After-number32-at = search in
+    let p : tie.After-shape-of = search in
+    simp (n .number32-at .ensures, p .shape-of .ensures)
 
 pub bad-size-spec : {M : Type 1} → statement M
 bad-size-spec =

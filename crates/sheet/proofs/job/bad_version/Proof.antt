@@ -7,7 +7,9 @@ byte-at-requires : tie.Need-byte-at-requires
 byte-at-requires c κs = search needs
 
 returns : tie.Need-returns
-returns c = simp (c .byte-at .ensures)
+returns c =
+    let after : tie.After-byte-at = search in
+    simp (after .byte-at .ensures)
 
 pub bad-version-spec : {M : Type 1} → statement M
 bad-version-spec = tie.close (tie.spec byte-at-requires returns)

@@ -13,7 +13,11 @@ number16-at-requires-2 : tie.Need-number16-at-requires-2
 number16-at-requires-2 c κs = search needs
 
 returns : tie.Need-returns
-returns c = simp (c .before .before .byte-at .ensures, c .before .number16-at .ensures, c .number16-at2 .ensures)
+returns c =
+    let after : tie.After-number16-at2 = search in
+    let slots : tie.After-byte-at = search in
+    let time : tie.After-number16-at = search in
+    simp (slots .byte-at .ensures, time .number16-at .ensures, after .number16-at2 .ensures)
 
 pub shape-of-spec : {M : Type 1} → statement M
 shape-of-spec =

@@ -18,14 +18,16 @@ abbrev μ-loop : tie.MeasureT-loop
 μ-loop job slots row₀ slot₀ row slot = 64 - slot
 
 loop-holds : tie.Need-loop-holds Inv-loop μ-loop
-loop-holds c = (omega arith, omega arith, sym (row-none (c .before .args .job .now)))
+loop-holds c =
+    let s : tie.Start Inv-loop μ-loop = search in
+    (omega arith, omega arith, sym (row-none (s .args .job .now)))
 
 returns : tie.Need-returns Inv-loop μ-loop
 returns c =
-    let a = c .before .before .before .before .args in
-    let l = c .before .before .loop in
-    let same : l .slot ≡ a .slots = omega arith in
-    l .inv .2 ∙ ap (λ (k : ℕ). row64 k (a .job .now)) same
+    let s : tie.Start Inv-loop μ-loop = search in
+    let p : tie.At-loop Inv-loop μ-loop = search in
+    let same : p .loop .slot ≡ s .args .slots = omega arith in
+    p .loop .inv .2 ∙ ap (λ (k : ℕ). row64 k (s .args .job .now)) same
 
 starting-symbol-requires : tie.Need-starting-symbol-requires Inv-loop μ-loop
 starting-symbol-requires c κs = search needs
@@ -47,21 +49,25 @@ loop-less c = omega arith
 
 loop-again : tie.Need-loop-again Inv-loop μ-loop
 loop-again c =
-    let a = c .before .before .before .before .before .args in
-    let l = c .before .before .before .loop in (
+    let after : tie.After-starting-symbol Inv-loop μ-loop = search in
+    let s : tie.Start Inv-loop μ-loop = search in
+    let p : tie.At-loop Inv-loop μ-loop = search in
+    let l = p .loop in
+    let job = s .args .job .now in (
       omega arith,
       omega arith,
-      ap (λ (v : ℕ). set (l .row) (l .slot) v) (c .starting-symbol .ensures)
-          ∙ ap (λ (r : List ℕ). set r (l .slot) (number16 (a .job .now) (10 + 2 * l .slot))) (l .inv .2)
-          ∙ row-more (l .slot) (a .job .now) (c .before .before .loop-test .taken),
+      ap (λ (v : ℕ). set (l .row) (l .slot) v) (after .starting-symbol .ensures)
+          ∙ ap (λ (r : List ℕ). set r (l .slot) (number16 job (10 + 2 * l .slot))) (l .inv .2)
+          ∙ row-more (l .slot) job search,
     )
 
 returns-2 : tie.Need-returns-2 Inv-loop μ-loop
 returns-2 c =
-    let a = c .before .before .before .args in
-    let l = c .before .loop in
-    let same : l .slot ≡ 64 = omega arith in
-    l .inv .2 ∙ ap (λ (k : ℕ). row64 k (a .job .now)) same ∙ row-full (a .slots) (a .job .now) (omega arith)
+    let s : tie.Start Inv-loop μ-loop = search in
+    let p : tie.At-loop Inv-loop μ-loop = search in
+    let a = s .args in
+    let same : p .loop .slot ≡ 64 = omega arith in
+    p .loop .inv .2 ∙ ap (λ (k : ℕ). row64 k (a .job .now)) same ∙ row-full (a .slots) (a .job .now) (omega arith)
 
 pub starting-slots-spec : {M : Type 1} → statement M
 starting-slots-spec =

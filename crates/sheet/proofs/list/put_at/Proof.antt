@@ -1,5 +1,5 @@
 -- `put_at` meets its contract: the part that was written has come back into the room.
-use Prim.Native.Nat.{_+_, _≤_}
+use Prim.Native.Nat.{_+_, _<_, _≤_}
 use lib.ListN.{length}
 use borrow.Author.Needs.{needs}
 use borrow.Author.Tests.{lt-ltb, le-ltb}
@@ -12,7 +12,10 @@ add-if1 : tie.Need-add-if1
 add-if1 c = search needs
 
 returns : tie.Need-returns
-returns c = (simp (lt-ltb _ _ (c .if1 .taken)), simp (lt-ltb _ _ (c .if1 .taken)))
+returns c =
+    let s : tie.Start = search in
+    let short : length (s .args .room .now) < s .args .at + 7 = search in
+    (simp (lt-ltb _ _ short), simp (lt-ltb _ _ short))
 
 sub-put-first : tie.Need-sub-put-first
 sub-put-first c = search needs
@@ -31,11 +34,14 @@ same-length c = search needs
 
 returns-2 : tie.Need-returns-2
 returns-2 c =
-    let a = c .before .before .before .before .before .before .args in
-    let enough : a .at + 7 ≤ length (a .room .now) = c .before .before .before .before .if1 .left in (
+    let s : tie.Start = search in
+    let p : tie.After-put-first = search in
+    let a = s .args in
+    let enough : a .at + 7 ≤ length (a .room .now) = search in (
       simp (le-ltb _ _ enough),
       simp (le-ltb _ _ enough)
-          (put-back (a .at) (eventBytes (event (a .long) (a .byte) (a .short))) (a .room .now) (c .before .before .put-first .last .0) enough (c .before .before .put-first .ensures)),
+          (put-back (a .at) (eventBytes (event (a .long) (a .byte) (a .short))) (a .room .now) (p .put-first .last .0) enough
+          (p .put-first .ensures)),
     )
 
 pub put-at-spec : {M : Type 1} → statement M

@@ -1,6 +1,7 @@
 -- `byte_at` meets its contract: past the end there is 0.
+use Prim.Native.Nat.{_≤_}
 use mathlib.Core.Path.{sym}
-use lib.ListN.{List·getD-eq-default}
+use lib.ListN.{length, List·getD-eq-default}
 use borrow.Author.Needs.{needs}
 use Rattle.sheet.proofs.number.byte_at.Statement.{statement}
 use Rattle.sheet.proofs.number.byte_at.Tie as tie
@@ -12,7 +13,10 @@ returns : tie.Need-returns
 returns c = search needs
 
 returns-2 : tie.Need-returns-2
-returns-2 c = sym (List·getD-eq-default (c .before .args .s .now) 0 (c .if1 .left))
+returns-2 c =
+    let s : tie.Start = search in
+    let past : length (s .args .s .now) ≤ s .args .at = search in
+    sym (List·getD-eq-default (s .args .s .now) 0 past)
 
 pub byte-at-spec : {M : Type 1} → statement M
 byte-at-spec = tie.close (tie.spec shared-slice-read-result returns returns-2)

@@ -21,7 +21,9 @@ returns : tie.Need-returns
 returns c = search needs
 
 returns-2 : tie.Need-returns-2
-returns-2 c = sym (number16-past (c .before .before .args .s .now) (c .before .before .args .at) (c .if1 .left))
+returns-2 c =
+    let s : tie.Start = search in
+    sym (number16-past (s .args .s .now) (s .args .at) search)
 
 pub number16-at-spec : {M : Type 1} → statement M
 number16-at-spec =

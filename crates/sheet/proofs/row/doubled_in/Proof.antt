@@ -1,6 +1,8 @@
 -- `doubled_in` meets its contract: at each turn what is left of the row gives what the whole row gives.
-use Prim.Native.Nat.{_+_, _*_, _≤_, _<_}
+use Prim.Native.Nat.{ℕ, _+_, _*_, _≤_, _<_}
 use native.Mathlib.Omega.{arith}
+use mathlib.Core.Bool.{true, false}
+use mathlib.Core.List.{List}
 use mathlib.Core.Path.{_≡_, refl, sym, _∙_}
 use lib.ListN.{drop}
 use borrow.Author.Needs.{needs}
@@ -36,16 +38,29 @@ sub-left c = omega arith
 stands-in-requires : tie.Need-stands-in-requires Inv-loop μ-loop
 stands-in-requires c κs = search needs
 
+-- The symbol of this turn, and what the loop has kept up to it.
+module _ (p : tie.After-number16-at Inv-loop μ-loop) where
+  abbrev at-loop : tie.At-loop Inv-loop μ-loop
+  at-loop = search
+
+  abbrev at-start : tie.Start Inv-loop μ-loop
+  at-start = search
+
+  abbrev row : List ℕ
+  row = at-start .args .s .now
+
+  more : 0 < at-loop .loop .left
+  more = search
+
 returns : tie.Need-returns Inv-loop μ-loop
 returns c =
-    let a = c .before .before .before .before .before .before .before .args in
-    let l = c .before .before .before .before .before .loop in
+    let p : tie.After-number16-at Inv-loop μ-loop = search in
+    let again : tie.After-stands-in Inv-loop μ-loop = search in
+    let l = at-loop p .loop in
+    let found : again .stands-in .result ≡ true = search in
     sym
-    (doubled-found (a .s .now) (l .at) (l .left) (c .before .before .before .before .loop-test .taken)
-    (c .before .before .before .number16-at .result)
-    (c .before .before .before .number16-at .ensures)
-    (c .before .before .if1 .taken)
-    (sym (c .before .stands-in .ensures) ∙ c .if2 .taken))
+    (doubled-found (row p) (l .at) (l .left) (more p) (p .number16-at .result) (p .number16-at .ensures) (search)
+    (sym (again .stands-in .ensures) ∙ found))
     ∙ l .inv .0
 
 loop-less : tie.Need-loop-less Inv-loop μ-loop
@@ -53,14 +68,13 @@ loop-less c = omega arith
 
 loop-again : tie.Need-loop-again Inv-loop μ-loop
 loop-again c =
-    let a = c .before .before .before .before .before .before .before .args in
-    let l = c .before .before .before .before .before .loop in (
+    let p : tie.After-number16-at Inv-loop μ-loop = search in
+    let again : tie.After-stands-in Inv-loop μ-loop = search in
+    let l = at-loop p .loop in
+    let none : again .stands-in .result ≡ false = search in (
       sym
-          (doubled-further (a .s .now) (l .at) (l .left) (c .before .before .before .before .loop-test .taken)
-          (c .before .before .before .number16-at .result)
-          (c .before .before .before .number16-at .ensures)
-          (c .before .before .if1 .taken)
-          (sym (c .before .stands-in .ensures) ∙ c .if2 .left))
+          (doubled-further (row p) (l .at) (l .left) (more p) (p .number16-at .result) (p .number16-at .ensures) (search)
+          (sym (again .stands-in .ensures) ∙ none))
           ∙ l .inv .0,
       omega arith,
       omega arith,
@@ -71,23 +85,19 @@ loop-less-2 c = omega arith
 
 loop-again-2 : tie.Need-loop-again-2 Inv-loop μ-loop
 loop-again-2 c =
-    let a = c .before .before .before .before .before .args in
-    let l = c .before .before .before .loop in (
-      sym
-          (doubled-mark (a .s .now) (l .at) (l .left) (c .before .before .loop-test .taken)
-          (c .before .number16-at .result)
-          (c .before .number16-at .ensures)
-          (c .if1 .left))
-          ∙ l .inv .0,
+    let p : tie.After-number16-at Inv-loop μ-loop = search in
+    let l = at-loop p .loop in (
+      sym (doubled-mark (row p) (l .at) (l .left) (more p) (p .number16-at .result) (p .number16-at .ensures) search) ∙ l .inv .0,
       omega arith,
       omega arith,
     )
 
 returns-2 : tie.Need-returns-2 Inv-loop μ-loop
 returns-2 c =
-    let a = c .before .before .before .args in
-    let l = c .before .loop in
-    sym (row-empty (drop (l .at) (a .s .now)) (l .left) 0 (c .loop-test .left) .1) ∙ l .inv .0
+    let s : tie.Start Inv-loop μ-loop = search in
+    let p : tie.At-loop Inv-loop μ-loop = search in
+    let l = p .loop in
+    sym (row-empty (drop (l .at) (s .args .s .now)) (l .left) 0 (search) .1) ∙ l .inv .0
 
 pub doubled-in-spec : {M : Type 1} → statement M
 doubled-in-spec =

@@ -23,9 +23,10 @@ read-event-requires c κs = search needs
 
 returns : tie.Need-returns
 returns c =
+    let after : tie.After-read-event = search in
     let s : tie.Start = search in
     let a = s .args in
-    c .read-event .ensures
+    after .read-event .ensures
     ∙ ap readEvent (take-all (length (a .list .now) - a .at) (drop (a .at) (a .list .now)) (simp length-drop (omega arith)))
 
 returns-2 : tie.Need-returns-2
