@@ -18,14 +18,14 @@ use Rattle.rules.specs.Order.{Test, test, Verdict, clear, met}
 use Rattle.rules.specs.Job.{shapeOf, drawsOf, jobOf, most-slots, most-draws}
 use Rattle.rules.specs.LoadList.{head-size, countOf, eventsOf, eventsIn}
 use Rattle.rules.specs.Display.{refused}
-use Rattle.rules.specs.Refusals.{readJob, badList, readList, shortCheck, unruly, follows, checkTests, checked, answerOf, ticksOf, slotsOf, lent}
+use Rattle.rules.specs.Refusals.{readJob, badList, readList, shortCheck, firstBadTick, follows, checkTests, checked, answerOf, ticksOf, slotsOf, lent}
 use Rattle.laws.proofs.Cases.{by-test, neither}
 use Rattle.laws.proofs.Verdicts.{Gives, stop, step, gives}
 use Rattle.laws.proofs.Jobs.{Proper, proper, draws-many, taken-shape}
 use Rattle.laws.proofs.Checks.{checked-met, checked-past}
 use Rattle.laws.proofs.Events.{length-eventsIn}
 use Rattle.sheet.specs.Size.{Sized}
-use Rattle.checker.specs.Follow.{Roomy, Handed}
+use Rattle.checker.specs.Follow.{HasRoom, HandedOut}
 
 -- ---- The list
 
@@ -88,20 +88,20 @@ as-many list head count is read = ap length (same-events list head count is read
 
 module _ (list : List ℕ) (head : ListReading) (count first : ℕ) where
   pub at-order : {n : ℕ} {later : List Test} → head ≡ readList list → head ≡ Listed count
-      → first ≡ unruly 0 (eventsIn count (drop head-size list)) → first < count
-      → Gives (test n (unruly 0 (eventsOf list)) (ltb (unruly 0 (eventsOf list)) (length (eventsOf list))) ∷ later) (met n first)
+      → first ≡ firstBadTick 0 (eventsIn count (drop head-size list)) → first < count
+      → Gives (test n (firstBadTick 0 (eventsOf list)) (ltb (firstBadTick 0 (eventsOf list)) (length (eventsOf list))) ∷ later) (met n first)
   at-order is read found inside =
-      let same : first ≡ unruly 0 (eventsOf list) = found ∙ ap (unruly 0) (sym (same-events list head count is read)) in
+      let same : first ≡ firstBadTick 0 (eventsOf list) = found ∙ ap (firstBadTick 0) (sym (same-events list head count is read)) in
       let all : length (eventsOf list) ≡ count = as-many list head count is read in
-      rw same (stop true (sym (lt-ltb (unruly 0 (eventsOf list)) (length (eventsOf list)) (omega arith))) refl)
+      rw same (stop true (sym (lt-ltb (firstBadTick 0 (eventsOf list)) (length (eventsOf list)) (omega arith))) refl)
 
   pub past-order : {n d : ℕ} {later : List Test} {v : Verdict} → head ≡ readList list → head ≡ Listed count
-      → first ≡ unruly 0 (eventsIn count (drop head-size list)) → count ≤ first → Gives later v
-      → Gives (test n d (ltb (unruly 0 (eventsOf list)) (length (eventsOf list))) ∷ later) v
+      → first ≡ firstBadTick 0 (eventsIn count (drop head-size list)) → count ≤ first → Gives later v
+      → Gives (test n d (ltb (firstBadTick 0 (eventsOf list)) (length (eventsOf list))) ∷ later) v
   past-order is read found over g =
-      let same : first ≡ unruly 0 (eventsOf list) = found ∙ ap (unruly 0) (sym (same-events list head count is read)) in
+      let same : first ≡ firstBadTick 0 (eventsOf list) = found ∙ ap (firstBadTick 0) (sym (same-events list head count is read)) in
       let all : length (eventsOf list) ≡ count = as-many list head count is read in
-      step false (sym (le-ltb (unruly 0 (eventsOf list)) (length (eventsOf list)) (omega arith))) refl g
+      step false (sym (le-ltb (firstBadTick 0 (eventsOf list)) (length (eventsOf list)) (omega arith))) refl g
 
 -- ---- The answer
 
@@ -118,7 +118,7 @@ module _ (job list ticks slots : List ℕ) (answer : Answer) where
 
   -- Past all tests it hands out what its run does.
   pub hands-out : (head : ListReading) (count : ℕ) (ticks′ slots′ : List ℕ) → head ≡ readList list → head ≡ Listed count
-      → Handed (follows (jobOf job) (eventsIn count (drop head-size list))) answer ticks ticks′ slots slots′
+      → HandedOut (follows (jobOf job) (eventsIn count (drop head-size list))) answer ticks ticks′ slots slots′
       → Gives (checkTests job list (length ticks) (length slots)) clear
       → (answer ≡ answerOf (checked job list (length ticks) (length slots)))
       × ((ticks′ ≡ lent (ticksOf (checked job list (length ticks) (length slots))) ticks)
@@ -133,7 +133,7 @@ module _ (job list ticks slots : List ℕ) (answer : Answer) where
 pub roomy : (job list : List ℕ) (reading : JobReading) (head : ListReading) (shape : Shape) (count : ℕ) (ticks slots : List ℕ) (r : Bool)
     → reading ≡ readJob job → reading ≡ Taken shape → head ≡ readList list → head ≡ Listed count
     → r ≡ (ltb (length ticks) (shape .draws) || ltb (length slots) (shape .draws)) → r ≡ false
-    → Roomy job list shape count ticks slots
+    → HasRoom job list shape count ticks slots
 roomy job list reading head shape count ticks slots r is taken is′ read tested fails =
     let p : Proper (jobOf job) = proper job shape (sym is ∙ taken) in
     let same : shapeOf job ≡ shape = taken-shape job shape (sym is ∙ taken) in

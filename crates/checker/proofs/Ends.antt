@@ -13,11 +13,11 @@ use Rattle.rules.specs.declared.Shape.{Shape}
 use Rattle.rules.specs.Job.{Job, shapeOf, startingOf, drawsOf, jobOf, most-draws}
 use Rattle.rules.specs.LoadList.{Event}
 use Rattle.rules.specs.Display.{State, Run, going, refused, then, start, run}
-use Rattle.rules.specs.Refusals.{answerOf, closing, follow, follows, patience}
+use Rattle.rules.specs.Refusals.{answerOf, closing, follow, follows, mostTicks}
 use Rattle.laws.proofs.Symbols.{length-symbols}
 use Rattle.display.specs.declared.state.Display.{Display}
 use Rattle.display.specs.declared.tick.Ticked.{Ticked}
-use Rattle.display.specs.View.{Beside, view}
+use Rattle.display.specs.View.{History, view}
 use Rattle.display.specs.Tick.{Room, Ticks}
 use Rattle.display.proofs.Going.{going-over, going-late, going-refused}
 use Rattle.checker.specs.declared.run.Ran.{Ran}
@@ -25,7 +25,7 @@ use Rattle.checker.specs.Follow.{Finished, Shown}
 use Rattle.checker.proofs.Walks.{Walking, walking-start}
 
 -- Nothing is drawn and nothing begun.
-abbrev pub first : List ℕ → Beside
+abbrev pub first : List ℕ → History
 first draws = record { rest = draws; made = []; begun = [] }
 
 startWith : List ℕ → List ℕ → State
@@ -34,7 +34,7 @@ startWith draws slots =
 
 pub walking-first : (job : List ℕ) (events : List Event) (held : List ℕ) (d : Display) (ticks slots : List ℕ)
     → held ≡ startingOf job
-    → d ≡ record { tick = 0; waits = 0; loads = 0; next = 0; until = 0; into = 0; what = 0 }
+    → d ≡ record { tick = 0; waits = 0; loads = 0; next = 0; remaining = 0; target = 0; incoming = 0 }
     → Walking (jobOf job) events held d ticks slots (first (drawsOf job))
 unfolding startWith
 walking-first job events held d ticks slots starts fresh =
@@ -51,7 +51,7 @@ module _ (job : List ℕ) (shape : Shape) (shaped : shape ≡ shapeOf job) where
       ap length starts ∙ length-symbols (shapeOf job .slots) _ ∙ sym (ap (λ (s : Shape). s .slots) shaped)
 
   -- The ticks that a run may take.
-  pub limit-read : 8388608 + shape .time + shape .draws ≡ patience (jobOf job)
+  pub limit-read : 8388608 + shape .time + shape .draws ≡ mostTicks (jobOf job)
   limit-read =
       let time′ : shape .time ≡ shapeOf job .time = ap (λ (s : Shape). s .time) shaped in
       let many : length (drawsOf job) ≡ shape .draws = draws-read in
@@ -82,25 +82,25 @@ finished-whole count d all =
     }
 
 -- The ways out of the loop, each with its answer.
-module _ (job : Job) (events : List Event) (held : List ℕ) (d : Display) (ticks slots : List ℕ) (h : Beside)
+module _ (job : Job) (events : List Event) (held : List ℕ) (d : Display) (ticks slots : List ℕ) (h : History)
     (w : Walking job events held d ticks slots h) where
-  closes : (r : Run) → run job (follow events) (patience job) (start job) ≡ r → follows job events ≡ then r (closing events)
+  closes : (r : Run) → run job (follow events) (mostTicks job) (start job) ≡ r → follows job events ≡ then r (closing events)
   closes r e = ap (λ (x : Run). then x (closing events)) e
 
   pub shown-out : (count : ℕ) (r : Ran) → length (job .draws) ≤ d .next → length events ≡ count → Finished count d r
       → Shown (length (job .draws)) (follows job events) r ticks slots
   shown-out count r over size finish =
-      rw (closes (going (view held h d)) (going-over job (follow events) (patience job) held d h (w .along) over))
+      rw (closes (going (view held h d)) (going-over job (follow events) (mostTicks job) held d h (w .along) over))
       (finish .shows held (length (job .draws)) h events ticks slots size (w .along .few) (w .at) (w .from))
 
-  pub shown-up : (count : ℕ) (r : Ran) → patience job ≤ d .tick → length events ≡ count → Finished count d r
+  pub shown-up : (count : ℕ) (r : Ran) → mostTicks job ≤ d .tick → length events ≡ count → Finished count d r
       → Shown (length (job .draws)) (follows job events) r ticks slots
   shown-up count r late size finish =
-      rw (closes (going (view held h d)) (going-late job (follow events) (patience job) held d h (w .along) late))
+      rw (closes (going (view held h d)) (going-late job (follow events) (mostTicks job) held d h (w .along) late))
       (finish .shows held (length (job .draws)) h events ticks slots size (w .along .few) (w .at) (w .from))
 
   pub shown-refused : d .next < length (job .draws)
-      → d .tick < patience job
+      → d .tick < mostTicks job
       → (held′ : List ℕ) (t : Ticked) (answer : Answer)
       → Ticks job (follow events) held held′ d t
       → (t .number ≡ 0 → ⊥)
@@ -109,11 +109,11 @@ module _ (job : Job) (events : List Event) (held : List ℕ) (d : Display) (tick
   shown-refused within early held′ t answer ticked some answers =
       let ends : follows job events ≡ refused (t .number) (t .detail) =
       closes (refused (t .number) (t .detail))
-      (going-refused job (follow events) (patience job) held d h (w .along) within early held′ t ticked some) in
+      (going-refused job (follow events) (mostTicks job) held d h (w .along) within early held′ t ticked some) in
       record { answers = answers ∙ rw ends; few = omega arith; at = rw ends; from = rw ends }
 
   -- The counters have room for a tick more.
-  pub walking-room : job .time < 65536 → length (job .draws) ≤ most-draws → d .tick < patience job → Room d × (d .loads < 4294967295)
+  pub walking-room : job .time < 65536 → length (job .draws) ≤ most-draws → d .tick < mostTicks job → Room d × (d .loads < 4294967295)
   walking-room short few early =
       let waits′ : d .waits ≤ d .tick = w .along .waits in
       let loads′ : d .loads ≤ d .tick = w .along .loads in

@@ -5,7 +5,7 @@ use mathlib.Core.List.{List, map}
 use lib.ListN.{length, take, drop, set}
 use Rattle.rules.specs.declared.Answer.{Answer}
 use Rattle.rules.specs.declared.Shape.{Shape}
-use Rattle.rules.specs.declared.Begun.the-variants.{NoLoad}
+use Rattle.rules.specs.declared.MaybeLoad.the-variants.{NoLoad}
 use Rattle.rules.specs.declared.Happening.{Happening}
 use Rattle.rules.specs.declared.Happening.the-variants.{Draw, Wait}
 use Rattle.rules.specs.Job.{shapeOf, startingOf, most-slots, most-draws}
@@ -13,7 +13,7 @@ use Rattle.rules.specs.LoadList.{Event}
 use Rattle.rules.specs.Display.{Run}
 use Rattle.rules.specs.Refusals.{due, closing, answerOf, tickOf, slotOf, ticksOf, slotsOf, lent}
 use Rattle.sheet.specs.Size.{Sized}
-use Rattle.display.specs.View.{Beside, view}
+use Rattle.display.specs.View.{History, view}
 use Rattle.display.specs.declared.state.Display.{Display}
 use Rattle.checker.specs.declared.run.Ran.{Ran}
 
@@ -28,8 +28,8 @@ pub record Fit (job list : List ℕ) (shape : Shape) (count : ℕ) : Type 0 wher
 -- So many ticks from this display on bring neither a load nor the end of one, and no wait in them is one for ever.
 pub record Waits (events : List Event) (d : Display) (m : ℕ) : Type 0 where
   pub none-due : (j : ℕ) → j < m → due (drop (d .loads) events) (d .tick + j) ≡ NoLoad
-  pub before-end : d .until - m ≡ 0 → d .until ≡ 0
-  pub event-left : 0 < m → d .until ≡ 0 → d .loads < length events
+  pub before-end : d .remaining - m ≡ 0 → d .remaining ≡ 0
+  pub event-left : 0 < m → d .remaining ≡ 0 → d .loads < length events
 
 -- A buffer with what a tick brings for the draw at a place: nothing for a wait.
 abbrev pub noted : Happening → (ℕ → ℕ) → ℕ → List ℕ → List ℕ
@@ -52,7 +52,7 @@ pub record Shown (n : ℕ) (run : Run) (r : Ran) (ticks slots : List ℕ) : Type
 
 -- The end of a run at a display, whatever stands beside it, along any list of so many events.
 pub record Finished (count : ℕ) (d : Display) (r : Ran) : Type 0 where
-  pub shows : (held : List ℕ) (n : ℕ) (h : Beside) (events : List Event) (ticks slots : List ℕ)
+  pub shows : (held : List ℕ) (n : ℕ) (h : History) (events : List Event) (ticks slots : List ℕ)
       → length events ≡ count
       → d .next ≤ n
       → map tickOf (h .made) ≡ take (d .next) ticks
@@ -60,13 +60,13 @@ pub record Finished (count : ℕ) (d : Display) (r : Ran) : Type 0 where
       → Shown n (closing events (view held h d)) r ticks slots
 
 -- A job and a list that fit, and a place in both lent buffers for each draw.
-pub record Roomy (job list : List ℕ) (shape : Shape) (count : ℕ) (ticks slots : List ℕ) : Type 0 where
+pub record HasRoom (job list : List ℕ) (shape : Shape) (count : ℕ) (ticks slots : List ℕ) : Type 0 where
   pub fit : Fit job list shape count
   pub tick-room : shape .draws ≤ length ticks
   pub slot-room : shape .draws ≤ length slots
 
 -- The answer to a run and what the two lent buffers hold later.
-pub record Handed (run : Run) (answer : Answer) (ticks ticks′ slots slots′ : List ℕ) : Type 0 where
+pub record HandedOut (run : Run) (answer : Answer) (ticks ticks′ slots slots′ : List ℕ) : Type 0 where
   pub answers : answer ≡ answerOf run
   pub at : ticks′ ≡ lent (ticksOf run) ticks
   pub from : slots′ ≡ lent (slotsOf run) slots

@@ -14,7 +14,7 @@ ghost use lib.Dec.{ltb};
 ghost use Rattle.rules.specs.Job.{jobOf};
 ghost use Rattle.rules.specs.LoadList.{eventsIn, head-size};
 ghost use Rattle.rules.specs.Refusals.{checked, follows, answerOf, ticksOf, slotsOf, lent, jobNumber};
-ghost use Rattle.checker.specs.Follow.{Roomy, Handed};
+ghost use Rattle.checker.specs.Follow.{HasRoom, HandedOut};
 
 fn number_of(reading: JobReading) -> u32
     ensures { λ r. ⌜ r ≡ jobNumber reading ⌝ }
@@ -44,8 +44,8 @@ fn hand_out(
     ticks: &mut [u32],
     slots: &mut [u8],
 ) -> Answer
-    requires { ⌜ Roomy (now job) (now list) shape count (now ticks) (now slots) ⌝ }
-    ensures { λ r. ⌜ Handed (follows (jobOf (now (job .entry))) (eventsIn count (drop head-size (now (list .entry))))) r (now (ticks .entry)) (now (ticks .exit)) (now (slots .entry)) (now (slots .exit)) ⌝ }
+    requires { ⌜ HasRoom (now job) (now list) shape count (now ticks) (now slots) ⌝ }
+    ensures { λ r. ⌜ HandedOut (follows (jobOf (now (job .entry))) (eventsIn count (drop head-size (now (list .entry))))) r (now (ticks .entry)) (now (ticks .exit)) (now (slots .entry)) (now (slots .exit)) ⌝ }
 {
     let mut at = [0u32; 4096];
     let mut from = [0u8; 4096];
@@ -76,7 +76,7 @@ pub fn check(job: &[u8], list: &[u8], ticks: &mut [u32], slots: &mut [u8]) -> An
     if short_room(shape.draws, ticks.len(), slots.len()) {
         return refusal(7, 0);
     }
-    let first = sheet::first_unruly(list, count);
+    let first = sheet::first_bad_tick(list, count);
     if first < count as u32 {
         return refusal(9, first);
     }

@@ -2,12 +2,12 @@
 use display::Display;
 use display::Ticked;
 use display::begin;
+use display::draw_or_wait;
 use display::land;
-use display::load_number;
+use display::load_refusal;
 use display::refused_load;
-use display::settle;
-use rules::Begun;
 use rules::EventReading;
+use rules::MaybeLoad;
 use rules::Shape;
 ghost use mathlib.Core.Path.{_≡_};
 ghost use Prim.Native.Nat.{_<_};
@@ -20,12 +20,12 @@ ghost use Rattle.sheet.specs.Size.{Sized};
 ghost use Rattle.checker.specs.Follow.{Fit};
 
 // What the list asks for in this tick, when so many of its loads have begun.
-fn asked_of(list: &[u8], count: u16, loads: u32, tick: u32) -> Begun
+fn asked_of(list: &[u8], count: u16, loads: u32, tick: u32) -> MaybeLoad
     requires { ⌜ Sized count (now list) ⌝ }
     ensures { λ r. ⌜ r ≡ due (drop loads (eventsIn count (drop head-size (now (list .entry))))) tick ⌝ }
 {
     if count as u32 <= loads {
-        return Begun::NoLoad;
+        return MaybeLoad::NoLoad;
     }
     let reading = sheet::event_of(list, loads);
     let EventReading::Event {
@@ -34,12 +34,12 @@ fn asked_of(list: &[u8], count: u16, loads: u32, tick: u32) -> Begun
         symbol,
     } = reading
     else {
-        return Begun::NoLoad;
+        return MaybeLoad::NoLoad;
     };
     if at == tick {
-        return Begun::Load { slot, symbol };
+        return MaybeLoad::Load { slot, symbol };
     }
-    Begun::NoLoad
+    MaybeLoad::NoLoad
 }
 
 // One tick along the list, while draws remain: land, begin what the list asks for, then draw or wait.
@@ -57,10 +57,10 @@ pub fn follow_tick(
     let landed = land(held, d);
     let symbol = sheet::draw_symbol(job, shape.slots, landed.next);
     let asked = asked_of(list, count, landed.loads, landed.tick);
-    let number = load_number(held, landed, asked);
+    let number = load_refusal(held, landed, asked);
     if number != 0 {
         return refused_load(landed, number);
     }
     let begun = begin(held, landed, shape.time, asked);
-    settle(held, begun, asked, symbol, count as u32 <= landed.loads)
+    draw_or_wait(held, begun, asked, symbol, count as u32 <= landed.loads)
 }

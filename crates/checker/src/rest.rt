@@ -1,14 +1,14 @@
 // The waits behind a tick along a list: how many of them bring nothing else, and the display behind them all.
 use display::Display;
 use display::before_end;
-use display::pass;
+use display::pass_waits;
 use display::smaller;
 use rules::EventReading;
 use rules::Happening;
 ghost use mathlib.Core.Path.{_≡_};
 ghost use Prim.Native.Nat.{ℕ, _+_, _≤_, _<_};
 ghost use lib.ListN.{drop};
-ghost use Rattle.rules.specs.declared.Begun.the-variants.{NoLoad};
+ghost use Rattle.rules.specs.declared.MaybeLoad.the-variants.{NoLoad};
 ghost use Rattle.rules.specs.LoadList.{eventsIn, head-size};
 ghost use Rattle.rules.specs.Refusals.{due};
 ghost use Rattle.display.specs.Still.{Rested};
@@ -45,7 +45,7 @@ fn still_ticks(list: &[u8], count: u16, d: Display) -> u32
         return before_end(d);
     }
     let ahead = ticks_ahead(list, count, d.loads, d.tick);
-    if d.until == 0 {
+    if d.remaining == 0 {
         return ahead;
     }
     smaller(ahead, before_end(d))
@@ -53,12 +53,12 @@ fn still_ticks(list: &[u8], count: u16, d: Display) -> u32
 
 // The display behind the waits that follow a tick in which this happened: as far as nothing else can come up, and no further than the
 // limit. A draw may be followed by another, so behind it no tick is passed over.
-pub fn rest_of(list: &[u8], count: u16, d: Display, happening: Happening, limit: u32) -> Display
+pub fn after_waits(list: &[u8], count: u16, d: Display, happening: Happening, limit: u32) -> Display
     requires { ⌜ Sized count (now list) × (d .tick ≤ limit) × (d .waits ≤ d .tick) ⌝ }
     ensures { λ r. ⌜ Rested (Waits (eventsIn count (drop head-size (now (list .entry)))) d) limit happening d r ⌝ }
 {
     match happening {
         Happening::Draw { slot: _ } => d,
-        Happening::Wait(_) => pass(d, smaller(limit - d.tick, still_ticks(list, count, d))),
+        Happening::Wait(_) => pass_waits(d, smaller(limit - d.tick, still_ticks(list, count, d))),
     }
 }

@@ -1,6 +1,6 @@
 // The run of a display along a load list.
 use crate::follow::follow_tick;
-use crate::rest::rest_of;
+use crate::rest::after_waits;
 use display::Display;
 use display::start;
 use rules::Answer;
@@ -106,6 +106,6 @@ pub fn run_list(
         let happening = on_record.happening;
         note(ticks, slots, draw, tick, happening);
         let later = ticked.display;
-        d = rest_of(list, count, later, happening, limit);
+        d = after_waits(list, count, later, happening, limit);
     }
 }

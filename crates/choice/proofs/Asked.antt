@@ -8,8 +8,8 @@ use lib.ListN.{length, getD, take, drop, length-drop, length-reverse, take-appen
 use lib.Seq.{take-all, drop-at}
 use lib.Dec.{ltb, leb}
 use borrow.Author.Tests.{lt-ltb, le-ltb, eq-eqb, ne-eqb, le-leb, lt-leb}
-use Rattle.rules.specs.declared.Begun.{Begun}
-use Rattle.rules.specs.declared.Begun.the-variants.{Load, NoLoad}
+use Rattle.rules.specs.declared.MaybeLoad.{MaybeLoad}
+use Rattle.rules.specs.declared.MaybeLoad.the-variants.{Load, NoLoad}
 use Rattle.rules.specs.declared.Loading.{Loading}
 use Rattle.rules.specs.declared.Loading.the-variants.{Idle}
 use Rattle.rules.specs.Basics.{place, stands}
@@ -27,7 +27,7 @@ ap3 f p q r = rw (p, q, r)
 
 -- ---- Aggressive
 
-aggressiveFrom : Loading → List ℕ → List ℕ → Begun
+aggressiveFrom : Loading → List ℕ → List ℕ → MaybeLoad
 aggressiveFrom loading slots rest =
     cond
     (idle loading
@@ -70,7 +70,7 @@ module _ (s : State) (slots rest : List ℕ) (still : quiet s slots) (remain : s
 -- ---- On demand
 
 module _ (s : State) (slot : State → ℕ) (slots : List ℕ) (x : ℕ) (still : quiet s slots) (next : awaited s ≡ x) where
-  demandFrom : Loading → List ℕ → ℕ → Begun
+  demandFrom : Loading → List ℕ → ℕ → MaybeLoad
   demandFrom loading row y = cond (idle loading && not (stands y row)) (Load (slot s) y) NoLoad
 
   demand-from : on-demand slot .asks s ≡ demandFrom Idle slots x
@@ -88,7 +88,7 @@ module _ (s : State) (slot : State → ℕ) (slots : List ℕ) (x : ℕ) (still 
 -- ---- Conservative
 
 module _ (s : State) (slots rest : List ℕ) (next miss q x : ℕ) (still : quiet s slots) (remain : s .rest ≡ rest) (at : s .next ≡ next) where
-  earliestFrom : Loading → List ℕ → List ℕ → Begun
+  earliestFrom : Loading → List ℕ → List ℕ → MaybeLoad
   earliestFrom loading row left = cond (idle loading && leb miss (s .next + place (getD row q 0) left)) (Load q x) NoLoad
 
   earliest-from : earliestAt miss q x s ≡ earliestFrom Idle slots rest
@@ -105,7 +105,7 @@ module _ (s : State) (slots rest : List ℕ) (next miss q x : ℕ) (still : quie
 
 -- ---- By the plan's number
 
-module _ (job : Job) (order : Order) (s : State) (row : List ℕ) (r : Begun) where
+module _ (job : Job) (order : Order) (s : State) (row : List ℕ) (r : MaybeLoad) where
   pub by-aggressive : (plan : ℕ) → plan ≡ 0 → along plan job s ≡ row → (s .rest ≡ row → r ≡ aggressive .asks s) → r ≡ asksBy plan job order s
   by-aggressive zero e looks asks = asks looks
   by-aggressive (suc plan) e looks asks = absurd (omega arith)

@@ -5,8 +5,8 @@ use mathlib.Core.Bool.{cond}
 use mathlib.Core.List.{List, reverse}
 use lib.ListN.{length}
 use lib.Dec.{ltb}
-use Rattle.rules.specs.declared.Begun.{Begun}
-use Rattle.rules.specs.declared.Begun.the-variants.{NoLoad}
+use Rattle.rules.specs.declared.MaybeLoad.{MaybeLoad}
+use Rattle.rules.specs.declared.MaybeLoad.the-variants.{NoLoad}
 use Rattle.rules.specs.declared.Loading.the-variants.{Idle}
 use Rattle.rules.specs.Job.{Job, most-slots, most-draws}
 use Rattle.rules.specs.Display.{State}
@@ -25,11 +25,11 @@ abbrev pub quiet : State → List ℕ → Type 0
 quiet s slots = (s .loading ≡ Idle) × (s .slots ≡ slots)
 
 -- What conservative asks for, told from the next load of opt.
-abbrev pub orderAsks : Order → State → Begun
+abbrev pub orderAsks : Order → State → MaybeLoad
 orderAsks (Due miss q x) s = earliestAt miss q x s
 orderAsks Nothing s = NoLoad
 
-abbrev pub asksBy : ℕ → Job → Order → State → Begun
+abbrev pub asksBy : ℕ → Job → Order → State → MaybeLoad
 asksBy zero job order s = aggressive .asks s
 asksBy (suc zero) job order s = orderAsks order s
 asksBy (suc (suc zero)) job order s = opt .asks s

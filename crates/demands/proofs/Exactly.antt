@@ -9,7 +9,7 @@ use lib.Seq.{getD-at, getD-drop, take-all}
 use lib.Dec.{ltb, leb}
 use borrow.Author.Tests.{ltb-true, ltb-false, leb-true}
 use Rattle.rules.specs.declared.Answer.{Answer}
-use Rattle.rules.specs.declared.Begun.the-variants.{Load}
+use Rattle.rules.specs.declared.MaybeLoad.the-variants.{Load}
 use Rattle.rules.specs.declared.Loading.the-variants.{Idle}
 use Rattle.rules.specs.declared.ListReading.the-variants.{Listed, Unreadable}
 use Rattle.rules.specs.Basics.{stands}
@@ -17,7 +17,7 @@ use Rattle.rules.specs.Job.{Job, jobOf}
 use Rattle.rules.specs.LoadList.{Event, event, countOf, eventsOf}
 use Rattle.rules.specs.Order.{clear, firstOf}
 use Rattle.rules.specs.Display.{State, Loaded, going, start, idle, awaited, loadTests, run}
-use Rattle.rules.specs.Refusals.{follow, due, eventOf, tickOf, slotOf, ticksOf, slotsOf, answerOf, patience, follows, readList, badList, checked}
+use Rattle.rules.specs.Refusals.{follow, due, eventOf, tickOf, slotOf, ticksOf, slotsOf, answerOf, mostTicks, follows, readList, badList, checked}
 use Rattle.laws.proofs.Cases.{by-test}
 use Rattle.laws.proofs.Rows.{Each, map-snoc, length-snoc}
 use Rattle.laws.proofs.Search.{absent}
@@ -172,9 +172,9 @@ module _ (job : Job) (events : List Event) (p : Proper job) (ordered : Ruly 0 ev
 
   follows-goes : (s : State) × (follows job events ≡ going s)
   follows-goes =
-      let (s, ran) = runs (patience job) in
+      let (s, ran) = runs (mostTicks job) in
       let over : s .rest ≡ [] = over-in-time job events p ordered s ran in
-      (s, rw (ran, none-left (patience job) s ran over))
+      (s, rw (ran, none-left (mostTicks job) s ran over))
 
 -- What an accepted check reports is right by the list alone.
 pub accepted-is-right : (job list : List ℕ) (tick-places slot-places : ℕ) (s : State) → checked job list tick-places slot-places ≡ going s
@@ -192,7 +192,7 @@ accepted-is-right job list tick-places slot-places s e =
       tick-room = a .tick-room;
       slot-room = a .slot-room;
       in-order = a .ordered;
-      may-begin = λ i h. rw e (fair (jobOf job) (eventsOf list) p (a .ordered) (patience (jobOf job)) s (a .ran) i (rw (a .all-begun) h));
+      may-begin = λ i h. rw e (fair (jobOf job) (eventsOf list) p (a .ordered) (mostTicks (jobOf job)) s (a .ran) i (rw (a .all-begun) h));
       sheet = sheet;
       number = rw e;
       detail = rw e;

@@ -9,7 +9,7 @@ use Rattle.rules.specs.Job.{symbols, jobOf}
 use Rattle.rules.specs.LoadList.{event, eventsIn, eventsBytes, listBytes}
 use Rattle.rules.specs.Display.{Run, Rule, run, tick, beginning, happened}
 use Rattle.rules.specs.Plans.{rank, greatest, ahead, on-demand, opt, conservative, runPlan, begunIn}
-use Rattle.rules.specs.Refusals.{checked, due, unruly, doubled, inTime, answerOf}
+use Rattle.rules.specs.Refusals.{checked, due, firstBadTick, doubled, inTime, answerOf}
 use Rattle.rules.specs.Worked.{symbolBytes, jobBytes, numbers, accepts}
 use Rattle.demands.proofs.Demand3.{NoWorse}
 
@@ -41,7 +41,7 @@ listed = checked sheet (listBytes (event 0 1 3 ∷ [])) 4 4
 
 -- The list is accepted, with eight ticks and one load, and from the furthest choice conservative is as good.
 one-load : (numbers (answerOf listed) ≡ accepts 8 4 1) × (numbers (answerOf (planOf opt)) ≡ accepts 8 4 1)
-unfolding checked symbolBytes run tick beginning happened place symbols doubled greatest eventsIn eventsBytes due unruly
+unfolding checked symbolBytes run tick beginning happened place symbols doubled greatest eventsIn eventsBytes due firstBadTick
 one-load = (refl, refl)
 
 -- From the nearest choice it loads at every draw.
@@ -52,7 +52,7 @@ four-loads = refl
 -- So neither half of demand 3 holds of it: it makes four times the list's loads, and takes more than twice the list's ticks.
 nearest-is-worse : (answerOf (planOf nearestOpt) .loads ≤ answerOf listed .loads → ⊥)
     × (answerOf (planOf nearestOpt) .elapsed ≤ 2 * answerOf listed .elapsed → ⊥)
-unfolding least checked symbolBytes run tick beginning happened place symbols doubled eventsIn eventsBytes due unruly
+unfolding least checked symbolBytes run tick beginning happened place symbols doubled eventsIn eventsBytes due firstBadTick
 nearest-is-worse = (
   λ h. let more : 4 ≤ 1 = h in omega arith,
   λ h. let longer : 20 ≤ 16 = h in omega arith,

@@ -14,7 +14,7 @@ use Rattle.rules.specs.Job.{Job, shapeOf, jobOf}
 use Rattle.rules.specs.LoadList.{Event, eventsOf}
 use Rattle.rules.specs.Display.{State, Run, going, refused, unless, start, finished, run}
 use Rattle.rules.specs.Plans.{ruleOf, runPlan}
-use Rattle.rules.specs.Refusals.{jobTests, readJob, follow, patience, closing, follows, checkTests, checked, planned, answerOf}
+use Rattle.rules.specs.Refusals.{jobTests, readJob, follow, mostTicks, closing, follows, checkTests, checked, planned, answerOf}
 use Rattle.laws.proofs.Cases.{by-test}
 use Rattle.laws.proofs.Verdicts.{clear-of, never-met, GivenBy, given-exactly, clear-append}
 use Rattle.laws.proofs.Jobs.{Proper, proper, clear-taken}
@@ -81,30 +81,30 @@ clear-so job list ticks slots e =
 -- What time meets along a list, of a job that is taken and with the events in order.
 module _ (job : Job) (events : List Event) (good : Proper job) (ordered : Ruly 0 events) where
   -- The run is over by the ticks that a check allows it.
-  over-by-then : (s : State) → run job (follow events) (patience job) (start job) ≡ going s → finished (s .rest) ≡ true
+  over-by-then : (s : State) → run job (follow events) (mostTicks job) (start job) ≡ going s → finished (s .rest) ≡ true
   over-by-then s ran = ap finished (over-in-time job events good ordered s ran)
 
   -- A row that time meets refuses the run,
   met-refuses : (n d : ℕ) → Met job events n d → follows job events ≡ refused n d
   met-refuses n d m =
-      rw (refused-on-the-way job (follow events) (patience job) over-by-then (m .ticks) (m .state) n d (m .ran) (m .more)
+      rw (refused-on-the-way job (follow events) (mostTicks job) over-by-then (m .ticks) (m .state) n d (m .ran) (m .more)
       (row-refuses job events (m .state) n d (m .refuses)))
 
   -- and so does an event left at the end.
   left-refuses : (d : ℕ) → LeftOver job events d → follows job events ≡ refused 14 d
   left-refuses d l =
       let left : l .state .loads < length events = rw (l .first) (l .left) in
-      rw (over-anyway job (follow events) (patience job) over-by-then (l .ticks) (l .state) (l .ran) (l .over), lt-ltb _ _ left, l .first)
+      rw (over-anyway job (follow events) (mostTicks job) over-by-then (l .ticks) (l .state) (l .ran) (l .over), lt-ltb _ _ left, l .first)
 
   -- Nothing else does.
   refused-so : (n d : ℕ) → follows job events ≡ refused n d → Met job events n d ⊎ ((n ≡ 14) × LeftOver job events d)
-  refused-so n d e = by-end (then-refused (run job (follow events) (patience job) (start job)) (closing events) n d e)
+  refused-so n d e = by-end (then-refused (run job (follow events) (mostTicks job) (start job)) (closing events) n d e)
     where
-      by-end : (run job (follow events) (patience job) (start job) ≡ refused n d)
-          ⊎ ((s : State) × (run job (follow events) (patience job) (start job) ≡ going s) × (closing events s ≡ refused n d))
+      by-end : (run job (follow events) (mostTicks job) (start job) ≡ refused n d)
+          ⊎ ((s : State) × (run job (follow events) (mostTicks job) (start job) ≡ going s) × (closing events s ≡ refused n d))
           → Met job events n d ⊎ ((n ≡ 14) × LeftOver job events d)
       by-end (inl stops) =
-          let (u, s, ran, more, now) = run-refused job (follow events) (patience job) (start job) n d stops in
+          let (u, s, ran, more, now) = run-refused job (follow events) (mostTicks job) (start job) n d stops in
           inl (record { ticks = u; state = s; ran = ran; more = more; refuses = tick-refused job events s n d now })
       by-end (inr (s, ran, closed)) =
           by-test (ltb (s .loads) (length events))
@@ -113,7 +113,7 @@ module _ (job : Job) (events : List Event) (good : Proper job) (ordered : Ruly 0
           let number : n ≡ 14 = cc in
           let detail : s .loads ≡ d = cc in
           let left : s .loads < length events = ltb-true _ _ t in
-          inr (number, record { ticks = patience job; state = s; ran = ran; over = over-by-then s ran; left = rw (← detail) left; first = detail }))
+          inr (number, record { ticks = mostTicks job; state = s; ran = ran; over = over-by-then s ran; left = rw (← detail) left; first = detail }))
           (λ t. going-is-not-refused s n d (rw t at closed))
 
 -- A check is its run along the list behind its tests.

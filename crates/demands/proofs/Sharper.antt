@@ -14,7 +14,7 @@ use Rattle.rules.specs.LoadList.{head-size, event-size, last-tick, eventsOf}
 use Rattle.rules.specs.Basics.{place, stands}
 use Rattle.rules.specs.Display.{State, going, refused, start, land, idle, awaited, beginning, happeningOf, happened, asked, tick, finished, run}
 use Rattle.rules.specs.Plans.{ruleOf}
-use Rattle.rules.specs.Refusals.{readJob, follow, patience, eventOf, checked, planned, answerOf}
+use Rattle.rules.specs.Refusals.{readJob, follow, mostTicks, eventOf, checked, planned, answerOf}
 use Rattle.laws.proofs.Cases.{by-test}
 use Rattle.laws.proofs.Jobs.{Proper, proper}
 use Rattle.laws.proofs.Along.{along}
@@ -40,11 +40,11 @@ opt-loads-ended job list ticks slots room list-accepted enough =
     let (s, followed) = check-goes job list ticks slots list-accepted in
     let a : Accepted job list ticks slots s = accepted job list ticks slots s followed in
     let good : Proper (jobOf job) = proper job _ (a .job-taken) in
-    let better = conservative-better (jobOf job) good (follow (eventsOf list)) (patience (jobOf job)) s (a .ran) (a .over) in
+    let better = conservative-better (jobOf job) good (follow (eventsOf list)) (mostTicks (jobOf job)) s (a .ran) (a .over) in
     let same = conservative-no-later (jobOf job) good .1 in
-    let front = along (jobOf job) (eventsOf list) good (a .ordered) (patience (jobOf job)) s (a .ran) .so-far in
+    let front = along (jobOf job) (eventsOf list) good (a .ordered) (mostTicks (jobOf job)) s (a .ran) .so-far in
     let whole : map eventOf (s .begun) ≡ eventsOf list = front ∙ take-all (s .loads) (eventsOf list) (omega (arith, a .all-begun)) in
-    let ended = ended-but-one (jobOf job) (follow (eventsOf list)) good (patience (jobOf job)) s (a .ran) in
+    let ended = ended-but-one (jobOf job) (follow (eventsOf list)) good (mostTicks (jobOf job)) s (a .ran) in
     rw (planned-done job (shapeOf job) 2 room (a .job-taken) (omega arith) enough (opt-done (jobOf job) good), followed)
     (omega (arith, same, better .loads-ended, rw whole at ended))
 

@@ -8,8 +8,8 @@ use mathlib.Core.Logic.{_⊎_, inl, inr}
 use lib.ListN.{length, drop, drop-of-length-le}
 use lib.Dec.{eqb, ltb, leb}
 use borrow.Author.Tests.{ltb-true, ltb-false, leb-true, leb-false, le-leb, lt-ltb, le-ltb, eqb-true, eq-eqb, not-true, not-false}
-use Rattle.rules.specs.declared.Begun.{Begun}
-use Rattle.rules.specs.declared.Begun.the-variants.{Load, NoLoad}
+use Rattle.rules.specs.declared.MaybeLoad.{MaybeLoad}
+use Rattle.rules.specs.declared.MaybeLoad.the-variants.{Load, NoLoad}
 use Rattle.rules.specs.declared.Loading.{Loading}
 use Rattle.rules.specs.declared.Loading.the-variants.{Idle, Under}
 use Rattle.rules.specs.declared.Happening.the-variants.{Wait}
@@ -136,7 +136,7 @@ module _ (job : Job) (events : List Event) (s : State) where
       (beginning-refused job q x n d (land s) e)
 
   -- Where nothing is refused at its beginning, a tick is refused only as row 13, and then no event begins in it.
-  wait-refused : (b : Begun) (after : State) (n d : ℕ) → beginning job b (land s) ≡ going after
+  wait-refused : (b : MaybeLoad) (after : State) (n d : ℕ) → beginning job b (land s) ≡ going after
       → happened (happeningOf after) (follow events .done after) after ≡ refused n d → Refuses job events s n d
   unfolding beginning
   wait-refused NoLoad after n d began e =
@@ -155,7 +155,7 @@ module _ (job : Job) (events : List Event) (s : State) where
   unfolding tick
   tick-refused n d e = by-begun (asked (follow events) s) refl (then-refused (beginning job (asked (follow events) s) (land s)) _ n d e)
     where
-      by-begun : (b : Begun) → asked (follow events) s ≡ b
+      by-begun : (b : MaybeLoad) → asked (follow events) s ≡ b
           → (beginning job b (land s) ≡ refused n d)
           ⊎ ((after : State) × (beginning job b (land s) ≡ going after) × (happened (happeningOf after) (follow events .done after) after ≡ refused n d))
           → Refuses job events s n d

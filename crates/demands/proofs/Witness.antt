@@ -13,7 +13,7 @@ use Rattle.rules.specs.Basics.{place, stands}
 use Rattle.rules.specs.Job.{Job, drawsOf, jobOf}
 use Rattle.rules.specs.LoadList.{Event, eventsOf}
 use Rattle.rules.specs.Display.{State, drawn, going, start, awaited, run}
-use Rattle.rules.specs.Refusals.{follow, tickOf, slotOf, ticksOf, slotsOf, answerOf, patience, checked}
+use Rattle.rules.specs.Refusals.{follow, tickOf, slotOf, ticksOf, slotsOf, answerOf, mostTicks, checked}
 use Rattle.laws.proofs.Cases.{by-test}
 use Rattle.laws.proofs.Rows.{map-snoc, length-snoc}
 use Rattle.laws.proofs.Search.{place-holds, place-first, absent-at}
@@ -173,7 +173,7 @@ pub sheet-right : (job list : List ℕ) (ticks slots : ℕ) (s : State) → chec
 sheet-right job list ticks slots s e =
     let a : Accepted job list ticks slots s = accepted job list ticks slots s e in
     let p : Proper (jobOf job) = proper job _ (a .job-taken) in
-    let fuel : ℕ = patience (jobOf job) in
+    let fuel : ℕ = mostTicks (jobOf job) in
     let w : WitnessedState (jobOf job) (eventsOf list) s = witnessed (jobOf job) (eventsOf list) p (a .ordered) fuel s (a .ran) in
     let g : SaneState (jobOf job) s = sane (jobOf job) (follow (eventsOf list)) p fuel s (a .ran) in
     let c : CountedState (jobOf job) s = counted (jobOf job) (follow (eventsOf list)) p fuel s (a .ran) in

@@ -15,7 +15,7 @@ use Rattle.rules.specs.Job.{free, most-slots, most-time, most-draws, shapeOf, s
 use Rattle.rules.specs.LoadList.{Event, event, most-events, last-tick, head-size, event-size, countOf, eventsOf}
 use Rattle.rules.specs.Display.{Run, going, refused, finished}
 use Rattle.rules.specs.Plans.{ruleOf, runPlan}
-use Rattle.rules.specs.Refusals.{badJobLength, badLimits, doubled, badSymbols, jobTests, badList, unruly, shortCheck, checkTests, shortPlan}
+use Rattle.rules.specs.Refusals.{badJobLength, badLimits, doubled, badSymbols, jobTests, badList, firstBadTick, shortCheck, checkTests, shortPlan}
 use Rattle.laws.proofs.Cases.{by-test, neither}
 use Rattle.laws.proofs.Search.{place-holds, present}
 use Rattle.plan_laws.proofs.Asking.{both-true}
@@ -224,27 +224,27 @@ one-up least t q x l zero w = w
 one-up least t q x l (suc i) w = w
 
 -- The walk that looks for the first event out of order finds one that is,
-found-wrong : (least : ℕ) (events : List Event) → unruly least events < length events → Wrong least events (unruly least events)
-unfolding unruly
+found-wrong : (least : ℕ) (events : List Event) → firstBadTick least events < length events → Wrong least events (firstBadTick least events)
+unfolding firstBadTick
 found-wrong least [] h = absurd (omega arith)
 found-wrong least (event t q x ∷ l) h =
     by-test (ltb last-tick t || ltb t least)
     (λ e. rw e (either (ltb last-tick t) (ltb t least) e (λ f. inl (ltb-true last-tick t f)) (λ f. inr (ltb-true t least f))))
     (λ e.
-    let inside : suc (unruly (t + 1) l) < suc (length l) = rw e at h in
-    rw e (one-up least t q x l (unruly (t + 1) l) (found-wrong (t + 1) l (omega arith))))
+    let inside : suc (firstBadTick (t + 1) l) < suc (length l) = rw e at h in
+    rw e (one-up least t q x l (firstBadTick (t + 1) l) (found-wrong (t + 1) l (omega arith))))
 
 -- and none before it.
-none-before : (least : ℕ) (events : List Event) (i : ℕ) → i < unruly least events → Wrong least events i → ⊥
-unfolding unruly
+none-before : (least : ℕ) (events : List Event) (i : ℕ) → i < firstBadTick least events → Wrong least events i → ⊥
+unfolding firstBadTick
 none-before least [] i h w = omega arith
 none-before least (event t q x ∷ l) i h w =
     by-test (ltb last-tick t || ltb t least)
     (λ e. let none : i < 0 = rw e at h in omega arith)
     (λ e. behind i (rw e at h) (neither (ltb last-tick t) (ltb t least) e) w (λ j. none-before (t + 1) l j))
   where
-    behind : (i : ℕ) → i < suc (unruly (t + 1) l) → (ltb last-tick t ≡ false) × (ltb t least ≡ false) → Wrong least (event t q x ∷ l) i
-        → ((j : ℕ) → j < unruly (t + 1) l → Wrong (t + 1) l j → ⊥) → ⊥
+    behind : (i : ℕ) → i < suc (firstBadTick (t + 1) l) → (ltb last-tick t ≡ false) × (ltb t least ≡ false) → Wrong least (event t q x ∷ l) i
+        → ((j : ℕ) → j < firstBadTick (t + 1) l → Wrong (t + 1) l j → ⊥) → ⊥
     behind zero h fine (inl over) later = let limit : t ≤ last-tick = ltb-false last-tick t (fine .0) in omega arith
     behind zero h fine (inr under) later = let least-tick : least ≤ t = ltb-false t least (fine .1) in omega arith
     behind (suc j) h fine w later = later j (omega arith) (one-down least t q x l j w)
@@ -262,23 +262,23 @@ so-wrong events zero (not-above under) = inr under
 so-wrong events (suc i) (not-above under) = inr under
 
 -- Row 9, with the first such event.
-order-words : (events : List Event) → Says (FirstOutOfOrder events) (unruly 0 events) (ltb (unruly 0 events) (length events))
+order-words : (events : List Event) → Says (FirstOutOfOrder events) (firstBadTick 0 events) (ltb (firstBadTick 0 events) (length events))
 order-words events =
     record {
       found = λ i h.
-          let at-most : unruly 0 events ≤ i =
-          by-test (ltb i (unruly 0 events))
-          (λ e. absurd (none-before 0 events i (ltb-true i (unruly 0 events) e) (so-wrong events i (h .wrong))))
-          (λ e. ltb-false i (unruly 0 events) e) in
-          let inside : unruly 0 events < length events = omega (arith, h .inside) in
-          let at-least : i ≤ unruly 0 events =
-          by-test (ltb (unruly 0 events) i)
+          let at-most : firstBadTick 0 events ≤ i =
+          by-test (ltb i (firstBadTick 0 events))
+          (λ e. absurd (none-before 0 events i (ltb-true i (firstBadTick 0 events) e) (so-wrong events i (h .wrong))))
+          (λ e. ltb-false i (firstBadTick 0 events) e) in
+          let inside : firstBadTick 0 events < length events = omega (arith, h .inside) in
+          let at-least : i ≤ firstBadTick 0 events =
+          by-test (ltb (firstBadTick 0 events) i)
           (λ e.
-          absurd (h .first (unruly 0 events) (ltb-true (unruly 0 events) i e) (wrong-so events _ (found-wrong 0 events inside))))
-          (λ e. ltb-false (unruly 0 events) i e) in
-          (lt-ltb (unruly 0 events) (length events) inside, omega arith);
+          absurd (h .first (firstBadTick 0 events) (ltb-true (firstBadTick 0 events) i e) (wrong-so events _ (found-wrong 0 events inside))))
+          (λ e. ltb-false (firstBadTick 0 events) i e) in
+          (lt-ltb (firstBadTick 0 events) (length events) inside, omega arith);
       so = λ e.
-          let inside : unruly 0 events < length events = ltb-true (unruly 0 events) (length events) e in
+          let inside : firstBadTick 0 events < length events = ltb-true (firstBadTick 0 events) (length events) e in
           record {
             inside = inside;
             wrong = wrong-so events _ (found-wrong 0 events inside);

@@ -8,7 +8,7 @@ use Rattle.rules.specs.declared.JobReading.the-variants.{Taken}
 use Rattle.rules.specs.declared.ListReading.the-variants.{Listed}
 use Rattle.rules.specs.Job.{Job, free, shapeOf, drawsOf, jobOf}
 use Rattle.rules.specs.LoadList.{Event, event, countOf, eventsOf}
-use Rattle.rules.specs.Refusals.{readJob, readList, unruly}
+use Rattle.rules.specs.Refusals.{readJob, readList, firstBadTick}
 use Rattle.demands.specs.Held.{held, Sheet}
 
 -- The tick, the slot and the symbol of event i.
@@ -44,7 +44,7 @@ pub record Right (job list : List ℕ) (tick-places slot-places : ℕ) (ticks sl
   pub list-read : readList list ≡ Listed (countOf list)
   pub tick-room : length (drawsOf job) ≤ tick-places
   pub slot-room : length (drawsOf job) ≤ slot-places
-  pub in-order : unruly 0 (eventsOf list) ≡ length (eventsOf list)
+  pub in-order : firstBadTick 0 (eventsOf list) ≡ length (eventsOf list)
   pub may-begin : (i : ℕ) → i < length (eventsOf list) → MayBegin (jobOf job) (eventsOf list) i (answer .elapsed)
   pub sheet : Sheet (jobOf job) (eventsOf list) ticks slots answer
   pub number : answer .number ≡ 0

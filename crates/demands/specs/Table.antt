@@ -6,7 +6,7 @@ use mathlib.Core.Bool.{true, false}
 use mathlib.Core.List.{List, [], _∷_, _++_}
 use mathlib.Core.Logic.{_⊎_}
 use lib.ListN.{length, getD, drop}
-use Rattle.rules.specs.declared.Begun.the-variants.{Load}
+use Rattle.rules.specs.declared.MaybeLoad.the-variants.{Load}
 use Rattle.rules.specs.declared.Shape.{Shape}
 use Rattle.rules.specs.Basics.{stands, number32}
 use Rattle.rules.specs.Job.{Job, free, most-slots, most-time, most-draws, shapeOf, startingOf, drawsOf, jobOf}

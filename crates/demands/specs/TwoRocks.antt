@@ -7,7 +7,7 @@ use Rattle.rules.specs.Basics.{place}
 use Rattle.rules.specs.Job.{symbols}
 use Rattle.rules.specs.LoadList.{event, eventsIn, eventsBytes, listBytes}
 use Rattle.rules.specs.Display.{Run, run, tick, beginning, happened}
-use Rattle.rules.specs.Refusals.{checked, due, unruly, doubled, answerOf, ticksOf, slotsOf}
+use Rattle.rules.specs.Refusals.{checked, due, firstBadTick, doubled, answerOf, ticksOf, slotsOf}
 use Rattle.rules.specs.Worked.{symbolBytes, jobBytes, numbers, accepts, refuses}
 
 -- The symbols of the sheet.
@@ -30,20 +30,20 @@ loadedFrom t = checked sheet (listBytes (event t 0 dry ∷ [])) 4 4
 
 -- The slot is taken a tick early, in the very tick in which the last submerged rock is to be drawn: that draw, number 2, is refused.
 taken-too-early : numbers (answerOf (loadedFrom 2)) ≡ refuses 13 2
-unfolding checked symbolBytes run tick beginning happened place symbols doubled eventsIn eventsBytes due unruly
+unfolding checked symbolBytes run tick beginning happened place symbols doubled eventsIn eventsBytes due firstBadTick
 taken-too-early = refl
 
 -- So it is where it is taken a tick before that.
 taken-earlier-still : numbers (answerOf (loadedFrom 1)) ≡ refuses 13 2
-unfolding checked symbolBytes run tick beginning happened place symbols doubled eventsIn eventsBytes due unruly
+unfolding checked symbolBytes run tick beginning happened place symbols doubled eventsIn eventsBytes due firstBadTick
 taken-earlier-still = refl
 
 -- A tick later the last submerged rock is drawn, and the list is accepted: seven ticks, three of them waits for the one load.
 taken-in-time : numbers (answerOf (loadedFrom 3)) ≡ accepts 7 3 1
-unfolding checked symbolBytes run tick beginning happened place symbols doubled eventsIn eventsBytes due unruly
+unfolding checked symbolBytes run tick beginning happened place symbols doubled eventsIn eventsBytes due firstBadTick
 taken-in-time = refl
 
 -- Its draws: the submerged rock at ticks 0 and 2 and the dry one at tick 6, all from slot 0, and the light at tick 1 from slot 1.
 drawn-in-time : (ticksOf (loadedFrom 3) ≡ 0 ∷ 1 ∷ 2 ∷ 6 ∷ []) × (slotsOf (loadedFrom 3) ≡ 0 ∷ 1 ∷ 0 ∷ 0 ∷ [])
-unfolding checked symbolBytes run tick beginning happened place symbols doubled eventsIn eventsBytes due unruly
+unfolding checked symbolBytes run tick beginning happened place symbols doubled eventsIn eventsBytes due firstBadTick
 drawn-in-time = (refl, refl)

@@ -15,15 +15,15 @@ use Rattle.rules.specs.Display.{State, Run, Rule, going, refused, then, start, 
 use Rattle.laws.proofs.Runs.{run-finished, run-unfinished}
 use Rattle.display.specs.declared.state.Display.{Display}
 use Rattle.display.specs.declared.tick.Ticked.{Ticked}
-use Rattle.display.specs.View.{Beside, view, besideBegun, besideMade, onward}
+use Rattle.display.specs.View.{History, view, historyBegun, historyMade, onward}
 use Rattle.display.specs.Tick.{Ticks, Counted, nextAfter, leads, missed}
 use Rattle.display.specs.Still.{passed, waiting, Rested}
 use Rattle.display.proofs.Steps.{begun-rest}
 use Rattle.display.proofs.Stretches.{Quiet, stretch-run}
 
 -- What a tick does to the draws that remain.
-made-rest : (d : Display) (hp : Happening) (h : Beside) (next : ℕ) (draws : List ℕ)
-    → h .rest ≡ drop next draws → besideMade d hp h .rest ≡ drop (nextAfter hp next) draws
+made-rest : (d : Display) (hp : Happening) (h : History) (next : ℕ) (draws : List ℕ)
+    → h .rest ≡ drop next draws → historyMade d hp h .rest ≡ drop (nextAfter hp next) draws
 made-rest d (Draw q) h next draws e = ap (λ (l : List ℕ). drop 1 l) e ∙ drop-drop 1 next draws
 made-rest d (Wait cause) h next draws e = e
 
@@ -41,7 +41,7 @@ waits-missed (Wait cause) x slots e m = m
 
 module _ (job : Job) (rule : Rule) (limit : ℕ) where
   -- Between two ticks of the code's run, with h beside the display.
-  pub record Going (slots : List ℕ) (d : Display) (h : Beside) : Type 0 where
+  pub record Going (slots : List ℕ) (d : Display) (h : History) : Type 0 where
     pub whole : run job rule (limit - d .tick) (view slots h d) ≡ run job rule limit (start job)
     pub rest : h .rest ≡ drop (d .next) (job .draws)
     pub in-time : d .tick ≤ limit
@@ -49,7 +49,7 @@ module _ (job : Job) (rule : Rule) (limit : ℕ) where
     pub loads : d .loads ≤ d .tick
     pub few : d .next ≤ length (job .draws)
 
-  pub going-start : (slots : List ℕ) (d : Display) (h : Beside) → view slots h d ≡ start job → Going slots d h
+  pub going-start : (slots : List ℕ) (d : Display) (h : History) → view slots h d ≡ start job → Going slots d h
   going-start slots d h e =
       let tick′ : d .tick ≡ 0 = ap (λ (s : State). s .tick) e in
       let next′ : d .next ≡ 0 = ap (λ (s : State). s .next) e in
@@ -65,7 +65,7 @@ module _ (job : Job) (rule : Rule) (limit : ℕ) where
         few = omega arith;
       }
 
-  module _ (slots : List ℕ) (d : Display) (h : Beside) (g : Going slots d h) where
+  module _ (slots : List ℕ) (d : Display) (h : History) (g : Going slots d h) where
     -- It ends where no draw remains, or where no tick is left.
     pub going-over : length (job .draws) ≤ d .next → run job rule limit (start job) ≡ going (view slots h d)
     going-over over =
@@ -95,7 +95,7 @@ module _ (job : Job) (rule : Rule) (limit : ℕ) where
         module _ (went : r .number ≡ 0) (quiet : ℕ → Type 0) (e : Display)
             (rested : Rested quiet limit (r .on_record .happening) (r .display) e)
             (calm : (m : ℕ) → quiet m → (j : ℕ) → j < m → Quiet job rule slots′ (onward d (r .on_record) h) (passed j (r .display))) where
-          abbrev h′ : Beside
+          abbrev h′ : History
           h′ = onward d (r .on_record) h
 
           counts : Counted 1 (r .on_record .happening) d (r .display)
@@ -103,7 +103,7 @@ module _ (job : Job) (rule : Rule) (limit : ℕ) where
 
           rest′ : h′ .rest ≡ drop (r .display .next) (job .draws)
           rest′ =
-              made-rest d (r .on_record .happening) (besideBegun d (r .on_record .begun) h) (d .next) (job .draws)
+              made-rest d (r .on_record .happening) (historyBegun d (r .on_record .begun) h) (d .next) (job .draws)
               (begun-rest d (r .on_record .begun) h ∙ g .rest)
               ∙ ap (λ (n : ℕ). drop n (job .draws)) (sym (counts .next))
 

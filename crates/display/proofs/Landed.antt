@@ -11,7 +11,7 @@ use Rattle.rules.specs.Job.{shapeOf, drawsOf, draws-at}
 use Rattle.rules.specs.Display.{State, land}
 use Rattle.laws.proofs.Symbols.{symbol-at, number16-drop}
 use Rattle.display.specs.declared.state.Display.{Display}
-use Rattle.display.specs.View.{Beside, view}
+use Rattle.display.specs.View.{History, view}
 use Rattle.display.specs.Tick.{Room}
 
 -- The symbol of a draw, read from the job's bytes.
@@ -22,8 +22,8 @@ draw-read job next h =
     rw (getD-drop, there, symbol-at (shapeOf job .draws) (drop (draws-at (shapeOf job .slots)) job) next h, number16-drop)
 
 -- A landed display differs from the one before in its slots and its load under way alone.
-module _ (slots slots₁ : List ℕ) (d l : Display) (lands : (h : Beside) → view slots₁ h l ≡ land (view slots h d)) where
-  none : Beside
+module _ (slots slots₁ : List ℕ) (d l : Display) (lands : (h : History) → view slots₁ h l ≡ land (view slots h d)) where
+  none : History
   none = record { rest = []; made = []; begun = [] }
 
   pub landed-tick : l .tick ≡ d .tick

@@ -6,7 +6,7 @@ use mathlib.Core.Bool.{Bool, false}
 use mathlib.Core.List.{List}
 use lib.ListN.{getD}
 use lib.Dec.{eqb}
-use Rattle.rules.specs.declared.Begun.the-variants.{NoLoad}
+use Rattle.rules.specs.declared.MaybeLoad.the-variants.{NoLoad}
 use Rattle.rules.specs.declared.Happening.{Happening}
 use Rattle.rules.specs.declared.Happening.the-variants.{Wait}
 use Rattle.rules.specs.Basics.{stands}
@@ -15,7 +15,7 @@ use Rattle.rules.specs.Display.{State, Run, Rule, going, then, land, wait, awai
 use Rattle.laws.proofs.Cases.{by-test}
 use Rattle.laws.proofs.Runs.{run-unfinished}
 use Rattle.display.specs.declared.state.Display.{Display}
-use Rattle.display.specs.View.{Beside, loadingOf, view}
+use Rattle.display.specs.View.{History, loadingOf, view}
 use Rattle.display.specs.Still.{passed, Rested}
 use Rattle.display.proofs.Views.{nearer, nearer-lands}
 
@@ -30,7 +30,7 @@ pub rested-none : (quiet : ℕ → Type 0) (limit : ℕ) (happening : Happening)
 rested-none quiet limit happening d early still =
     let ticks : d .tick + 0 ≡ d .tick = omega arith in
     let waits : d .waits + 0 ≡ d .waits = omega arith in
-    let until : d .until - 0 ≡ d .until = omega arith in
+    let until : d .remaining - 0 ≡ d .remaining = omega arith in
     record {
       many = 0;
       passes = rw (ticks, waits, until);
@@ -47,18 +47,18 @@ module _ (job : Job) (rule : Rule) where
       ap (λ (x : State). then (beginning job (rule .asks x) x) (λ b. happened (recordOf (rule .asks x) b .happening) (rule .done b) b)) (sym lands)
       ∙ rw (asks, absent, goes-on)
 
-  module _ (slots : List ℕ) (h : Beside) where
+  module _ (slots : List ℕ) (h : History) where
     -- The next tick of this display brings nothing but a wait, where the awaited symbol is in no slot.
     pub record Quiet (d : Display) : Type 0 where
       pub asks : rule .asks (view slots h (nearer d)) ≡ NoLoad
-      pub far : d .until ≡ 1 → ⊥
-      pub goes-on : d .until ≡ 0 → rule .done (view slots h (nearer d)) ≡ false
+      pub far : d .remaining ≡ 1 → ⊥
+      pub goes-on : d .remaining ≡ 0 → rule .done (view slots h (nearer d)) ≡ false
 
     none-further : (d : Display) → view slots h (passed 0 d) ≡ view slots h d
     none-further d =
         let ticks : d .tick + 0 ≡ d .tick = omega arith in
         let waits : d .waits + 0 ≡ d .waits = omega arith in
-        let until : d .until - 0 ≡ d .until = omega arith in
+        let until : d .remaining - 0 ≡ d .remaining = omega arith in
         rw (ticks, waits, until)
 
     -- No ticks at all lead nowhere, whatever is awaited.
@@ -71,14 +71,14 @@ module _ (job : Job) (rule : Rule) where
       quiet-tick : (d : Display) → Quiet d → tick job rule (view slots h d) ≡ going (view slots h (passed 1 d))
       quiet-tick d quiet =
           tick-waits (view slots h d) (view slots h (nearer d)) (nearer-lands slots h d (quiet .far)) (quiet .asks) absent
-          (not-stuck (d .until - 1) (d .into) (d .what) (getD (h .rest) 0 0) (rule .done (view slots h (nearer d)))
-          (λ none. let far : d .until ≡ 1 → ⊥ = quiet .far in quiet .goes-on (omega arith)))
+          (not-stuck (d .remaining - 1) (d .target) (d .incoming) (getD (h .rest) 0 0) (rule .done (view slots h (nearer d)))
+          (λ none. let far : d .remaining ≡ 1 → ⊥ = quiet .far in quiet .goes-on (omega arith)))
 
       one-further : (m : ℕ) (d : Display) → view slots h (passed 1 (passed m d)) ≡ view slots h (passed (suc m) d)
       one-further m d =
           let ticks : d .tick + m + 1 ≡ d .tick + suc m = omega arith in
           let waits : d .waits + m + 1 ≡ d .waits + suc m = omega arith in
-          let until : d .until - m - 1 ≡ d .until - suc m = omega arith in
+          let until : d .remaining - m - 1 ≡ d .remaining - suc m = omega arith in
           rw (ticks, waits, until)
 
       still-run : (m t : ℕ) (d : Display) → ((j : ℕ) → j < m → Quiet (passed j d))

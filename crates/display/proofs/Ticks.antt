@@ -5,25 +5,25 @@ use mathlib.Core.Path.{_≡_, sym, ap, _∙_}
 use mathlib.Core.Bool.{Bool, true, false, cond}
 use mathlib.Core.List.{List}
 use lib.ListN.{getD}
-use Rattle.rules.specs.declared.Begun.{Begun}
+use Rattle.rules.specs.declared.MaybeLoad.{MaybeLoad}
 use Rattle.rules.specs.declared.Happening.{Happening}
 use Rattle.rules.specs.declared.Happening.the-variants.{Draw, Wait}
 use Rattle.rules.specs.Basics.{place, stands}
 use Rattle.rules.specs.Display.{State, going, causeOf, happeningOf, happened, stuck, moved}
 use Rattle.display.specs.declared.state.Display.{Display}
-use Rattle.display.specs.View.{Beside, loadingOf, view, awaiting, besideMade}
-use Rattle.display.specs.Tick.{Settled, Counted, nextAfter}
+use Rattle.display.specs.View.{History, loadingOf, view, awaiting, historyMade}
+use Rattle.display.specs.Tick.{DrawnOrWaited, Counted, nextAfter}
 
 -- What happens goes by the awaited symbol alone, whatever else stands beside the display.
-same-happening : (slots : List ℕ) (d : Display) (h : Beside) (x : ℕ) → getD (h .rest) 0 0 ≡ x
+same-happening : (slots : List ℕ) (d : Display) (h : History) (x : ℕ) → getD (h .rest) 0 0 ≡ x
     → happeningOf (view slots h d) ≡ happeningOf (view slots (awaiting x) d)
 same-happening slots d h x e =
     ap
-    (λ (y : ℕ). cond (stands y slots) (Draw (place y slots)) (Wait (causeOf (loadingOf (d .until) (d .into) (d .what)) y)))
+    (λ (y : ℕ). cond (stands y slots) (Draw (place y slots)) (Wait (causeOf (loadingOf (d .remaining) (d .target) (d .incoming)) y)))
     e
 
 -- The counters after step 3, read off the state that it leads to.
-moved-counts : (slots : List ℕ) (d r : Display) (hp : Happening) (h : Beside) → view slots (besideMade d hp h) r ≡ moved hp (view slots h d)
+moved-counts : (slots : List ℕ) (d r : Display) (hp : Happening) (h : History) → view slots (historyMade d hp h) r ≡ moved hp (view slots h d)
     → Counted 0 hp d r
 moved-counts slots d r (Draw q) h e =
     let waits′ : r .waits ≡ d .waits = ap (λ (s : State). s .waits) e in
@@ -58,10 +58,10 @@ later-counts extra most hp d b r t n w l counts =
       loads = omega arith;
     }
 
-module _ (slots : List ℕ) (d : Display) (asked : Begun) (symbol : ℕ) (done : Bool) (happening : Happening)
+module _ (slots : List ℕ) (d : Display) (asked : MaybeLoad) (symbol : ℕ) (done : Bool) (happening : Happening)
     (known : happening ≡ happeningOf (view slots (awaiting symbol) d)) where
   pub settled-refused : stuck happening done ≡ true
-      → Settled slots d asked symbol done
+      → DrawnOrWaited slots d asked symbol done
       (record { number = 13; detail = d .next; on_record = record { begun = asked; happening = happening }; display = d })
   unfolding happened
   settled-refused halts =
@@ -74,8 +74,8 @@ module _ (slots : List ℕ) (d : Display) (asked : Begun) (symbol : ℕ) (done :
 
   pub settled-went : stuck happening done ≡ false
       → (r : Display)
-      → ((h : Beside) → view slots (besideMade d happening h) r ≡ moved happening (view slots h d))
-      → Settled slots d asked symbol done
+      → ((h : History) → view slots (historyMade d happening h) r ≡ moved happening (view slots h d))
+      → DrawnOrWaited slots d asked symbol done
       (record { number = 0; detail = 0; on_record = record { begun = asked; happening = happening }; display = r })
   unfolding happened
   settled-went goes r led =

@@ -7,7 +7,7 @@ use lib.ListN.{set}
 use Rattle.rules.specs.declared.Loading.the-variants.{Under}
 use Rattle.rules.specs.Display.{land, landedSlots, landedLoading}
 use Rattle.display.specs.declared.state.Display.{Display}
-use Rattle.display.specs.View.{Beside, loadingOf, view}
+use Rattle.display.specs.View.{History, loadingOf, view}
 
 -- Where no load ends, one under way comes a tick nearer to its end and no slot changes.
 nearer-loading : (until q x : ℕ) → (until ≡ 1 → ⊥) → loadingOf (until - 1) q x ≡ landedLoading (loadingOf until q x)
@@ -33,18 +33,18 @@ nearer d =
       waits = d .waits;
       loads = d .loads;
       next = d .next;
-      until = d .until - 1;
-      into = d .into;
-      what = d .what;
+      remaining = d .remaining - 1;
+      target = d .target;
+      incoming = d .incoming;
     }
 
-module _ (slots : List ℕ) (h : Beside) (d : Display) where
-  pub idle-lands : d .until ≡ 0 → view slots h d ≡ land (view slots h d)
+module _ (slots : List ℕ) (h : History) (d : Display) where
+  pub idle-lands : d .remaining ≡ 0 → view slots h d ≡ land (view slots h d)
   idle-lands e = simp e
 
-  pub ended-lands : d .until ≡ 1 → view (set slots (d .into) (d .what)) h (nearer d) ≡ land (view slots h d)
+  pub ended-lands : d .remaining ≡ 1 → view (set slots (d .target) (d .incoming)) h (nearer d) ≡ land (view slots h d)
   ended-lands e = simp e
 
-  pub nearer-lands : (d .until ≡ 1 → ⊥) → view slots h (nearer d) ≡ land (view slots h d)
+  pub nearer-lands : (d .remaining ≡ 1 → ⊥) → view slots h (nearer d) ≡ land (view slots h d)
   nearer-lands far =
-      simp (nearer-loading (d .until) (d .into) (d .what) far, ← nearer-slots (d .until) (d .into) (d .what) slots far)
+      simp (nearer-loading (d .remaining) (d .target) (d .incoming) far, ← nearer-slots (d .remaining) (d .target) (d .incoming) slots far)

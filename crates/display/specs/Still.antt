@@ -13,9 +13,9 @@ passed m d =
       waits = d .waits + m;
       loads = d .loads;
       next = d .next;
-      until = d .until - m;
-      into = d .into;
-      what = d .what;
+      remaining = d .remaining - m;
+      target = d .target;
+      incoming = d .incoming;
     }
 
 abbrev pub waiting : Happening → Bool

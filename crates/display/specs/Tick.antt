@@ -5,17 +5,17 @@ use mathlib.Core.Bool.{Bool, false, cond}
 use mathlib.Core.List.{List}
 use lib.ListN.{getD, drop}
 use lib.Dec.{eqb}
-use Rattle.rules.specs.declared.Begun.{Begun}
-use Rattle.rules.specs.declared.Begun.the-variants.{Load, NoLoad}
+use Rattle.rules.specs.declared.MaybeLoad.{MaybeLoad}
+use Rattle.rules.specs.declared.MaybeLoad.the-variants.{Load, NoLoad}
 use Rattle.rules.specs.declared.Happening.{Happening}
 use Rattle.rules.specs.declared.Happening.the-variants.{Draw, Wait}
 use Rattle.rules.specs.declared.TickRecord.{TickRecord}
 use Rattle.rules.specs.Basics.{stands}
 use Rattle.rules.specs.Job.{Job}
-use Rattle.rules.specs.Display.{State, Run, Rule, going, refused, loadNumber, happeningOf, happened, recordOf, tick}
+use Rattle.rules.specs.Display.{State, Run, Rule, going, refused, loadRefusal, happeningOf, happened, recordOf, tick}
 use Rattle.display.specs.declared.state.Display.{Display}
 use Rattle.display.specs.declared.tick.Ticked.{Ticked}
-use Rattle.display.specs.View.{Beside, view, awaiting, besideMade, onward}
+use Rattle.display.specs.View.{History, view, awaiting, historyMade, onward}
 
 -- The display's counters of ticks, draws and waits have room for one more.
 pub record Room (d : Display) : Type 0 where
@@ -24,12 +24,12 @@ pub record Room (d : Display) : Type 0 where
   pub waits : d .waits < 4294967295
 
 -- The refusal of what is asked for, where anything is.
-abbrev pub numberOf : Job → Begun → State → ℕ
-numberOf job NoLoad s = 0
-numberOf job (Load q x) s = loadNumber job q x s
+abbrev pub askedRefusal : Job → MaybeLoad → State → ℕ
+askedRefusal job NoLoad s = 0
+askedRefusal job (Load q x) s = loadRefusal job q x s
 
 -- Where a tick leads, with these slots behind it, given what stands beside the display once the tick is on record.
-abbrev pub leads : List ℕ → (TickRecord → Beside) → Ticked → Run
+abbrev pub leads : List ℕ → (TickRecord → History) → Ticked → Run
 leads slots beside r =
     cond (eqb (r .number) 0) (going (view slots (beside (r .on_record)) (r .display))) (refused (r .number) (r .detail))
 
@@ -46,12 +46,12 @@ pub record Counted (most : ℕ) (happening : Happening) (before later : Display)
   pub loads : later .loads ≤ before .loads + most
 
 -- Step 3 from d, with the awaited symbol, whatever stands beside the display.
-pub record Settled (slots : List ℕ) (d : Display) (asked : Begun) (symbol : ℕ) (done : Bool) (r : Ticked) : Type 0 where
+pub record DrawnOrWaited (slots : List ℕ) (d : Display) (asked : MaybeLoad) (symbol : ℕ) (done : Bool) (r : Ticked) : Type 0 where
   pub recorded : r .on_record ≡ recordOf asked (view slots (awaiting symbol) d)
   pub counts : r .number ≡ 0 → Counted 0 (r .on_record .happening) d (r .display)
-  pub run : (h : Beside)
+  pub run : (h : History)
       → getD (h .rest) 0 0 ≡ symbol
-      → leads slots (λ tick. besideMade d (tick .happening) h) r ≡ happened (happeningOf (view slots h d)) done (view slots h d)
+      → leads slots (λ tick. historyMade d (tick .happening) h) r ≡ happened (happeningOf (view slots h d)) done (view slots h d)
 
 -- A wait says that the awaited symbol is in no slot.
 abbrev pub missed : Happening → ℕ → List ℕ → Type 0
@@ -62,6 +62,6 @@ missed (Wait cause) x slots = stands x slots ≡ false
 pub record Ticks (job : Job) (rule : Rule) (slots slots′ : List ℕ) (d : Display) (r : Ticked) : Type 0 where
   pub counts : r .number ≡ 0 → Counted 1 (r .on_record .happening) d (r .display)
   pub waits : r .number ≡ 0 → missed (r .on_record .happening) (getD (drop (d .next) (job .draws)) 0 0) slots′
-  pub run : (h : Beside)
+  pub run : (h : History)
       → h .rest ≡ drop (d .next) (job .draws)
       → leads slots′ (λ tick. onward d tick h) r ≡ tick job rule (view slots h d)

@@ -5,8 +5,8 @@ use mathlib.Core.List.{List, [], _∷_, _++_}
 use lib.ListN.{drop}
 use Rattle.rules.specs.declared.Loading.{Loading}
 use Rattle.rules.specs.declared.Loading.the-variants.{Idle, Under}
-use Rattle.rules.specs.declared.Begun.{Begun}
-use Rattle.rules.specs.declared.Begun.the-variants.{Load, NoLoad}
+use Rattle.rules.specs.declared.MaybeLoad.{MaybeLoad}
+use Rattle.rules.specs.declared.MaybeLoad.the-variants.{Load, NoLoad}
 use Rattle.rules.specs.declared.Happening.{Happening}
 use Rattle.rules.specs.declared.Happening.the-variants.{Draw, Wait}
 use Rattle.rules.specs.declared.TickRecord.{TickRecord}
@@ -14,7 +14,7 @@ use Rattle.rules.specs.Job.{Job}
 use Rattle.rules.specs.Display.{State, Drawn, drawn, Loaded, loaded, begin}
 use Rattle.display.specs.declared.state.Display.{Display}
 
-pub record Beside : Type 0 where
+pub record History : Type 0 where
   pub rest : List ℕ
   pub made : List Drawn
   pub begun : List Loaded
@@ -24,14 +24,14 @@ abbrev pub loadingOf : ℕ → ℕ → ℕ → Loading
 loadingOf zero q x = Idle
 loadingOf (suc left) q x = Under left q x
 
-abbrev pub view : List ℕ → Beside → Display → State
+abbrev pub view : List ℕ → History → Display → State
 view slots h d =
     record {
       tick = d .tick;
       next = d .next;
       rest = h .rest;
       slots = slots;
-      loading = loadingOf (d .until) (d .into) (d .what);
+      loading = loadingOf (d .remaining) (d .target) (d .incoming);
       waits = d .waits;
       loads = d .loads;
       made = h .made;
@@ -39,30 +39,30 @@ view slots h d =
     }
 
 -- What stands beside the display once a load has begun, and once a draw was made.
-abbrev pub begunNow : Display → ℕ → ℕ → Beside → Beside
+abbrev pub begunNow : Display → ℕ → ℕ → History → History
 begunNow d q x h =
     record { rest = h .rest; made = h .made; begun = h .begun ++ (loaded (d .tick) (d .next) q x ∷ []) }
 
-abbrev pub drawnNow : Display → ℕ → Beside → Beside
+abbrev pub drawnNow : Display → ℕ → History → History
 drawnNow d q h = record { rest = drop 1 (h .rest); made = h .made ++ (drawn (d .tick) q ∷ []); begun = h .begun }
 
 -- The same by what went on record in a tick: what began, then what happened.
-abbrev pub besideBegun : Display → Begun → Beside → Beside
-besideBegun d NoLoad h = h
-besideBegun d (Load q x) h = begunNow d q x h
+abbrev pub historyBegun : Display → MaybeLoad → History → History
+historyBegun d NoLoad h = h
+historyBegun d (Load q x) h = begunNow d q x h
 
-abbrev pub besideMade : Display → Happening → Beside → Beside
-besideMade d (Draw q) h = drawnNow d q h
-besideMade d (Wait cause) h = h
+abbrev pub historyMade : Display → Happening → History → History
+historyMade d (Draw q) h = drawnNow d q h
+historyMade d (Wait cause) h = h
 
-abbrev pub onward : Display → TickRecord → Beside → Beside
-onward d tick h = besideMade d (tick .happening) (besideBegun d (tick .begun) h)
+abbrev pub onward : Display → TickRecord → History → History
+onward d tick h = historyMade d (tick .happening) (historyBegun d (tick .begun) h)
 
 -- The state once the load that is asked for has begun, where one is.
-abbrev pub begunBy : Job → Begun → State → State
+abbrev pub begunBy : Job → MaybeLoad → State → State
 begunBy job NoLoad s = s
 begunBy job (Load q x) s = begin job q x s
 
 -- All that a single search looks at: the awaited symbol.
-abbrev pub awaiting : ℕ → Beside
+abbrev pub awaiting : ℕ → History
 awaiting x = record { rest = x ∷ []; made = []; begun = [] }

@@ -1,13 +1,13 @@
 // The display's state, and the moves that make up a tick: a load ends or comes nearer to its end, a load begins, a draw, a wait.
 // What the slots hold is lent beside the state, so that no tick copies it.
-use rules::Begun;
+use rules::MaybeLoad;
 ghost use mathlib.Core.Path.{_≡_};
 ghost use mathlib.Core.List.{List};
 ghost use Prim.Native.Nat.{ℕ, _-_, _≤_, _<_};
 ghost use lib.ListN.{set};
 ghost use Rattle.rules.specs.Job.{Job};
 ghost use Rattle.rules.specs.Display.{land, draw, wait};
-ghost use Rattle.display.specs.View.{Beside, view, besideBegun, begunBy, drawnNow};
+ghost use Rattle.display.specs.View.{History, view, historyBegun, begunBy, drawnNow};
 
 // The ticks passed, the waits and loads so far and the next draw number; then the load under way: in how many ticks it ends, or 0 where
 // none is under way, and its slot and its symbol.
@@ -16,9 +16,9 @@ pub struct Display {
     pub waits: u32,
     pub loads: u32,
     pub next: u16,
-    pub until: u16,
-    pub into: u16,
-    pub what: u16,
+    pub remaining: u16,
+    pub target: u16,
+    pub incoming: u16,
 }
 
 // What a slot holds that holds no symbol.
@@ -26,16 +26,16 @@ pub const FREE: u16 = 65535;
 
 // Tick 0, with no load under way.
 pub fn start() -> Display
-    ensures { λ r. ⌜ r ≡ record { tick = 0; waits = 0; loads = 0; next = 0; until = 0; into = 0; what = 0 } ⌝ }
+    ensures { λ r. ⌜ r ≡ record { tick = 0; waits = 0; loads = 0; next = 0; remaining = 0; target = 0; incoming = 0 } ⌝ }
 {
     Display {
         tick: 0,
         waits: 0,
         loads: 0,
         next: 0,
-        until: 0,
-        into: 0,
-        what: 0,
+        remaining: 0,
+        target: 0,
+        incoming: 0,
     }
 }
 
@@ -50,40 +50,40 @@ fn put(slots: &mut [u16], slot: u16, content: u16)
 }
 
 fn nearer(d: Display) -> Display
-    requires { ⌜ 1 ≤ d .until ⌝ }
-    ensures { λ r. ⌜ r ≡ record { tick = d .tick; waits = d .waits; loads = d .loads; next = d .next; until = d .until - 1; into = d .into; what = d .what } ⌝ }
+    requires { ⌜ 1 ≤ d .remaining ⌝ }
+    ensures { λ r. ⌜ r ≡ record { tick = d .tick; waits = d .waits; loads = d .loads; next = d .next; remaining = d .remaining - 1; target = d .target; incoming = d .incoming } ⌝ }
 {
     Display {
         tick: d.tick,
         waits: d.waits,
         loads: d.loads,
         next: d.next,
-        until: d.until - 1,
-        into: d.into,
-        what: d.what,
+        remaining: d.remaining - 1,
+        target: d.target,
+        incoming: d.incoming,
     }
 }
 
 // Step 1 of a tick.
 pub fn land(slots: &mut [u16], d: Display) -> Display
-    ensures { λ r. ⌜ ((h : Beside) → view (now (slots .exit)) h r ≡ land (view (now (slots .entry)) h d)) ⌝ }
+    ensures { λ r. ⌜ ((h : History) → view (now (slots .exit)) h r ≡ land (view (now (slots .entry)) h d)) ⌝ }
 {
-    if d.until == 0 {
+    if d.remaining == 0 {
         return d;
     }
-    if d.until == 1 {
-        put(slots, d.into, d.what);
+    if d.remaining == 1 {
+        put(slots, d.target, d.incoming);
         return nearer(d);
     }
     nearer(d)
 }
 
 // Step 2 of a tick, where the load that is asked for, if any is, was not refused.
-pub fn begin(slots: &mut [u16], d: Display, time: u16, asked: Begun) -> Display
+pub fn begin(slots: &mut [u16], d: Display, time: u16, asked: MaybeLoad) -> Display
     requires { ⌜ (1 ≤ time) × (d .loads < 4294967295) ⌝ }
-    ensures { λ r. ⌜ ((h : Beside) (job : Job) → job .time ≡ time → view (now (slots .exit)) (besideBegun d asked h) r ≡ begunBy job asked (view (now (slots .entry)) h d)) ⌝ }
+    ensures { λ r. ⌜ ((h : History) (job : Job) → job .time ≡ time → view (now (slots .exit)) (historyBegun d asked h) r ≡ begunBy job asked (view (now (slots .entry)) h d)) ⌝ }
 {
-    let Begun::Load { slot, symbol } = asked else {
+    let MaybeLoad::Load { slot, symbol } = asked else {
         return d;
     };
     put(slots, slot as u16, FREE);
@@ -92,40 +92,40 @@ pub fn begin(slots: &mut [u16], d: Display, time: u16, asked: Begun) -> Display
         waits: d.waits,
         loads: d.loads + 1,
         next: d.next,
-        until: time,
-        into: slot as u16,
-        what: symbol,
+        remaining: time,
+        target: slot as u16,
+        incoming: symbol,
     }
 }
 
 // Step 3 of a tick that draws, from whatever slot.
 pub fn draw(d: Display) -> Display
     requires { ⌜ (d .tick < 4294967295) × (d .next < 65535) ⌝ }
-    ensures { λ r. ⌜ ((slots : List ℕ) (h : Beside) (q : ℕ) → view slots (drawnNow d q h) r ≡ draw q (view slots h d)) ⌝ }
+    ensures { λ r. ⌜ ((slots : List ℕ) (h : History) (q : ℕ) → view slots (drawnNow d q h) r ≡ draw q (view slots h d)) ⌝ }
 {
     Display {
         tick: d.tick + 1,
         waits: d.waits,
         loads: d.loads,
         next: d.next + 1,
-        until: d.until,
-        into: d.into,
-        what: d.what,
+        remaining: d.remaining,
+        target: d.target,
+        incoming: d.incoming,
     }
 }
 
 // Step 3 of a tick that waits.
 pub fn wait(d: Display) -> Display
     requires { ⌜ (d .tick < 4294967295) × (d .waits < 4294967295) ⌝ }
-    ensures { λ r. ⌜ ((slots : List ℕ) (h : Beside) → view slots h r ≡ wait (view slots h d)) ⌝ }
+    ensures { λ r. ⌜ ((slots : List ℕ) (h : History) → view slots h r ≡ wait (view slots h d)) ⌝ }
 {
     Display {
         tick: d.tick + 1,
         waits: d.waits + 1,
         loads: d.loads,
         next: d.next,
-        until: d.until,
-        into: d.into,
-        what: d.what,
+        remaining: d.remaining,
+        target: d.target,
+        incoming: d.incoming,
     }
 }

@@ -13,25 +13,25 @@ pub fn smaller(a: u32, b: u32) -> u32
 
 // The ticks before the one in which the load under way ends; none where no load is under way.
 pub fn before_end(d: Display) -> u32
-    ensures { λ r. ⌜ r ≡ d .until - 1 ⌝ }
+    ensures { λ r. ⌜ r ≡ d .remaining - 1 ⌝ }
 {
-    if d.until == 0 {
+    if d.remaining == 0 {
         return 0;
     }
-    (d.until - 1) as u32
+    (d.remaining - 1) as u32
 }
 
-fn less(until: u16, ticks: u32) -> u16
-    ensures { λ r. ⌜ r ≡ until - ticks ⌝ }
+fn ticks_left(remaining: u16, ticks: u32) -> u16
+    ensures { λ r. ⌜ r ≡ remaining - ticks ⌝ }
 {
-    if until as u32 <= ticks {
+    if remaining as u32 <= ticks {
         return 0;
     }
-    (until as u32 - ticks) as u16
+    (remaining as u32 - ticks) as u16
 }
 
 // The display behind so many waits.
-pub fn pass(d: Display, ticks: u32) -> Display
+pub fn pass_waits(d: Display, ticks: u32) -> Display
     requires { ⌜ (d .tick + ticks ≤ 4294967295) × (d .waits + ticks ≤ 4294967295) ⌝ }
     ensures { λ r. ⌜ r ≡ passed ticks d ⌝ }
 {
@@ -40,8 +40,8 @@ pub fn pass(d: Display, ticks: u32) -> Display
         waits: d.waits + ticks,
         loads: d.loads,
         next: d.next,
-        until: less(d.until, ticks),
-        into: d.into,
-        what: d.what,
+        remaining: ticks_left(d.remaining, ticks),
+        target: d.target,
+        incoming: d.incoming,
     }
 }

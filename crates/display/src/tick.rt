@@ -4,9 +4,9 @@ use crate::state::Display;
 use crate::state::FREE;
 use crate::state::draw;
 use crate::state::wait;
-use rules::Begun;
 use rules::Cause;
 use rules::Happening;
+use rules::MaybeLoad;
 use rules::TickRecord;
 ghost use mathlib.Core.Path.{_≡_};
 ghost use mathlib.Core.Bool.{not, _||_};
@@ -17,8 +17,8 @@ ghost use lib.Dec.{eqb, ltb};
 ghost use Rattle.rules.specs.Basics.{stands};
 ghost use Rattle.rules.specs.Job.{Job, free};
 ghost use Rattle.rules.specs.Display.{idle, causeOf, happeningOf, stuck, moved};
-ghost use Rattle.display.specs.View.{Beside, view, loadingOf, awaiting, besideMade};
-ghost use Rattle.display.specs.Tick.{Room, Settled, numberOf};
+ghost use Rattle.display.specs.View.{History, view, loadingOf, awaiting, historyMade};
+ghost use Rattle.display.specs.Tick.{Room, DrawnOrWaited, askedRefusal};
 
 // What came of a tick: the number and detail of its refusal, or number 0, the tick's record, and the display after it.
 pub struct Ticked {
@@ -30,9 +30,9 @@ pub struct Ticked {
 
 // 10. A load is under way.
 fn under_way(d: Display) -> bool
-    ensures { λ r. ⌜ r ≡ not (idle (loadingOf (d .until) (d .into) (d .what))) ⌝ }
+    ensures { λ r. ⌜ r ≡ not (idle (loadingOf (d .remaining) (d .target) (d .incoming))) ⌝ }
 {
-    d.until != 0
+    d.remaining != 0
 }
 
 // 11. The slot is none of these.
@@ -53,10 +53,10 @@ fn held_or_none(slots: &[u16], symbol: u16) -> bool
 }
 
 // The first refusal of 10 to 12 that a load which is asked for meets; 0 where it meets none or none is asked for.
-pub fn load_number(slots: &[u16], d: Display, asked: Begun) -> u32
-    ensures { λ r. ⌜ ((h : Beside) (job : Job) → job .slots ≡ length (now (slots .entry)) → r ≡ numberOf job asked (view (now (slots .entry)) h d)) ⌝ }
+pub fn load_refusal(slots: &[u16], d: Display, asked: MaybeLoad) -> u32
+    ensures { λ r. ⌜ ((h : History) (job : Job) → job .slots ≡ length (now (slots .entry)) → r ≡ askedRefusal job asked (view (now (slots .entry)) h d)) ⌝ }
 {
-    let Begun::Load { slot, symbol } = asked else {
+    let MaybeLoad::Load { slot, symbol } = asked else {
         return 0;
     };
     if under_way(d) {
@@ -73,13 +73,13 @@ pub fn load_number(slots: &[u16], d: Display, asked: Begun) -> u32
 
 // The tick of a load that is refused with this number. Nothing begins in it, and the display is as it was.
 pub fn refused_load(d: Display, number: u32) -> Ticked
-    ensures { λ r. ⌜ r ≡ record { number = number; detail = d .loads; on_record = record { begun = Begun.NoLoad; happening = Happening.Wait Cause.Nothing }; display = d } ⌝ }
+    ensures { λ r. ⌜ r ≡ record { number = number; detail = d .loads; on_record = record { begun = MaybeLoad.NoLoad; happening = Happening.Wait Cause.Nothing }; display = d } ⌝ }
 {
     Ticked {
         number,
         detail: d.loads,
         on_record: TickRecord {
-            begun: Begun::NoLoad,
+            begun: MaybeLoad::NoLoad,
             happening: Happening::Wait(Cause::Nothing),
         },
         display: d,
@@ -87,12 +87,12 @@ pub fn refused_load(d: Display, number: u32) -> Ticked
 }
 
 fn cause_of(d: Display, symbol: u16) -> Cause
-    ensures { λ r. ⌜ r ≡ causeOf (loadingOf (d .until) (d .into) (d .what)) symbol ⌝ }
+    ensures { λ r. ⌜ r ≡ causeOf (loadingOf (d .remaining) (d .target) (d .incoming)) symbol ⌝ }
 {
-    if d.until == 0 {
+    if d.remaining == 0 {
         return Cause::Nothing;
     }
-    if symbol == d.what {
+    if symbol == d.incoming {
         return Cause::Awaited;
     }
     Cause::Another
@@ -125,7 +125,7 @@ fn is_stuck(happening: Happening, done: bool) -> bool
 
 fn move_on(d: Display, happening: Happening) -> Display
     requires { ⌜ Room d ⌝ }
-    ensures { λ r. ⌜ ((slots : List ℕ) (h : Beside) → view slots (besideMade d happening h) r ≡ moved happening (view slots h d)) ⌝ }
+    ensures { λ r. ⌜ ((slots : List ℕ) (h : History) → view slots (historyMade d happening h) r ≡ moved happening (view slots h d)) ⌝ }
 {
     match happening {
         Happening::Draw { slot: _ } => draw(d),
@@ -134,9 +134,9 @@ fn move_on(d: Display, happening: Happening) -> Display
 }
 
 // Step 3 of a tick: the draw or the wait, refused where it would never end. `done` says that no load will be asked for any more.
-pub fn settle(slots: &[u16], d: Display, asked: Begun, symbol: u16, done: bool) -> Ticked
+pub fn draw_or_wait(slots: &[u16], d: Display, asked: MaybeLoad, symbol: u16, done: bool) -> Ticked
     requires { ⌜ (length (now slots) ≤ 64) × Room d ⌝ }
-    ensures { λ r. ⌜ Settled (now (slots .entry)) d asked symbol done r ⌝ }
+    ensures { λ r. ⌜ DrawnOrWaited (now (slots .entry)) d asked symbol done r ⌝ }
 {
     let happening = happening_of(slots, d, symbol);
     let on_record = TickRecord {

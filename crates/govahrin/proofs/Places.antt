@@ -13,7 +13,7 @@ use Rattle.rules.specs.Order.{Verdict, clear, met, firstOf}
 use Rattle.rules.specs.Job.{most-draws, shapeOf, drawsOf, jobOf}
 use Rattle.rules.specs.Display.{Run, going, refused}
 use Rattle.rules.specs.LoadList.{eventsOf}
-use Rattle.rules.specs.Refusals.{jobTests, readJob, follow, patience, checked, checkedForC, answerOf, ticksOf, slotsOf, tickOf, tickBytes, lent}
+use Rattle.rules.specs.Refusals.{jobTests, readJob, follow, mostTicks, checked, checkedForC, answerOf, ticksOf, slotsOf, tickOf, tickBytes, lent}
 use Rattle.laws.proofs.Cases.{by-test}
 use Rattle.laws.proofs.Verdicts.{gives, walked, inside}
 use Rattle.laws.proofs.Jobs.{Proper, proper, clear-taken}
@@ -51,9 +51,9 @@ noted : (job list : List ℕ) (ticks slots : ℕ) (run : Run) → checked job li
 noted job list ticks slots (going s) e =
     let a : Accepted job list ticks slots s = accepted job list ticks slots s e in
     let p : Proper (jobOf job) = proper job (shapeOf job) (a .job-taken) in
-    let c : CountedState (jobOf job) s = counted (jobOf job) (follow (eventsOf list)) p (patience (jobOf job)) s (a .ran) in
+    let c : CountedState (jobOf job) s = counted (jobOf job) (follow (eventsOf list)) p (mostTicks (jobOf job)) s (a .ran) in
     let all : s .tick ≡ length (drawsOf job) + s .waits =
-    elapsed (jobOf job) (follow (eventsOf list)) p (patience (jobOf job)) s (a .ran) (a .over) in
+    elapsed (jobOf job) (follow (eventsOf list)) p (mostTicks (jobOf job)) s (a .ran) (a .over) in
     let row : length (map tickOf (s .made)) ≡ length (s .made) = length-map (s .made) tickOf in
     record { elapses = omega arith; few = omega arith }
 noted job list ticks slots (refused number detail) e = record { elapses = omega arith; few = omega arith }

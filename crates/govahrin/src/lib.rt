@@ -3,8 +3,8 @@
 mod ticks;
 
 use rules::Answer;
-use ticks::few_places;
 use ticks::put_ticks;
+use ticks::tick_places;
 ghost use mathlib.Core.Path.{_≡_};
 ghost use Prim.Native.Nat.{_≤_};
 ghost use lib.ListN.{length};
@@ -43,7 +43,7 @@ pub extern "C" fn govahrin_check(
     ensures slots { λ r. ⌜ now (slots .exit) ≡ lent (slotsOf (checkedForC (now (job .entry)) (now (list .entry)) (length (now (ticks .entry))) (length (now (slots .entry))))) (now (slots .entry)) ⌝ }
 {
     let mut row = [0u32; 4096];
-    let places = few_places(ticks.len());
+    let places = tick_places(ticks.len());
     let answer = check_in(job, list, &mut row, places, slots);
     let draws = (answer.elapsed - answer.waits) as usize;
     put_ticks(ticks, &row, draws);

@@ -6,7 +6,7 @@ ghost use Rattle.rules.specs.Job.{most-draws};
 ghost use Rattle.rules.specs.Refusals.{tickBytes, lent};
 
 // The places for ticks that so many bytes lend, and no more than the largest job has draws.
-pub fn few_places(bytes: usize) -> usize
+pub fn tick_places(bytes: usize) -> usize
     ensures { λ r. ⌜ r ≡ min (bytes / 4) most-draws ⌝ }
 {
     let places = bytes / 4;

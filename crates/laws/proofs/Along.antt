@@ -9,13 +9,13 @@ use lib.ListN.{length, take, drop, length-drop}
 use lib.Seq.{drop-drop, take-add}
 use lib.Dec.{eqb, ltb, leb}
 use borrow.Author.Tests.{ltb-false, leb-false, eqb-true, eqb-false, le-ltb}
-use Rattle.rules.specs.declared.Begun.the-variants.{Load, NoLoad}
+use Rattle.rules.specs.declared.MaybeLoad.the-variants.{Load, NoLoad}
 use Rattle.rules.specs.declared.Loading.{Loading}
 use Rattle.rules.specs.declared.Loading.the-variants.{Idle, Under}
 use Rattle.rules.specs.Job.{Job}
 use Rattle.rules.specs.LoadList.{Event, event, last-tick}
 use Rattle.rules.specs.Display.{State, Loaded, loaded, going, start, landedLoading, finished, run}
-use Rattle.rules.specs.Refusals.{unruly, due, follow, patience, eventOf}
+use Rattle.rules.specs.Refusals.{firstBadTick, due, follow, mostTicks, eventOf}
 use Rattle.laws.proofs.Cases.{by-test, neither}
 use Rattle.laws.proofs.Rows.{map-snoc}
 use Rattle.laws.proofs.Moves.{Moves, reached, is-more, is-over}
@@ -28,25 +28,25 @@ use Rattle.laws.proofs.Counts.{ahead}
 
 -- No event is out of order: each tick is above the one before it, and none is over the limit.
 abbrev pub Ruly : ℕ → List Event → Type 0
-Ruly least l = unruly least l ≡ length l
+Ruly least l = firstBadTick least l ≡ length l
 
 -- The search for the first that is stops at the list's end.
-pub unruly-within : (least : ℕ) (l : List Event) → unruly least l ≤ length l
-unfolding unruly
-unruly-within least [] = omega arith
-unruly-within least (event t q x ∷ l) =
-    let more : unruly (t + 1) l ≤ length l = unruly-within (t + 1) l in
+pub bad-tick-within : (least : ℕ) (l : List Event) → firstBadTick least l ≤ length l
+unfolding firstBadTick
+bad-tick-within least [] = omega arith
+bad-tick-within least (event t q x ∷ l) =
+    let more : firstBadTick (t + 1) l ≤ length l = bad-tick-within (t + 1) l in
     by-test (ltb last-tick t || ltb t least) (λ e. rw e (omega arith)) (λ e. rw e (omega arith))
 
 -- The first event of such a list, and the list behind it.
 pub ruly-first : (least t q x : ℕ) (l : List Event) → Ruly least (event t q x ∷ l) → (least ≤ t) × (t ≤ last-tick) × Ruly (t + 1) l
-unfolding unruly
+unfolding firstBadTick
 ruly-first least t q x l h =
     by-test (ltb last-tick t || ltb t least)
     (λ e. let z : 0 ≡ suc (length l) = rw e at h in absurd (omega arith))
     (λ e.
     let (high, low) = neither (ltb last-tick t) (ltb t least) e in
-    let more : suc (unruly (t + 1) l) ≡ suc (length l) = rw e at h in
+    let more : suc (firstBadTick (t + 1) l) ≡ suc (length l) = rw e at h in
     (ltb-false t least low, ltb-false last-tick t high, omega arith))
 
 ruly-more : (least : ℕ) (l : List Event) → Ruly least l → 0 < length l → least ≤ last-tick
@@ -55,7 +55,7 @@ ruly-more least (event t q x ∷ l) h more =
     let f : (least ≤ t) × (t ≤ last-tick) × Ruly (t + 1) l = ruly-first least t q x l h in omega arith
 
 ruly-later : (least t q x : ℕ) (l : List Event) → Ruly least (event t q x ∷ l) → least < t → Ruly (least + 1) (event t q x ∷ l)
-unfolding unruly
+unfolding firstBadTick
 ruly-later least t q x l h later =
     let f : (least ≤ t) × (t ≤ last-tick) × Ruly (t + 1) l = ruly-first least t q x l h in
     rw (le-ltb last-tick t (f .1), le-ltb t (least + 1) (omega arith)) (ap suc (f .2))
@@ -79,7 +79,7 @@ due-load (event t r y ∷ later) now q x e =
 
 -- Where nothing is due now, all that is left comes later.
 due-none : (l : List Event) (now : ℕ) → due l now ≡ NoLoad → Ruly now l → Ruly (now + 1) l
-unfolding due unruly
+unfolding due firstBadTick
 due-none [] now e h = h
 due-none (event t q x ∷ l) now e h =
     by-test (eqb t now)
@@ -182,13 +182,13 @@ module _ (job : Job) (events : List Event) (p : Proper job) (ordered : Ruly 0 ev
   along t s e = reached job (follow events) _ _ _ (along-moves job events (p .some-time)) t (start job) s along-start e
 
   -- It is refused, or over, by the ticks that a check allows it.
-  pub over-in-time : (s : State) → run job (follow events) (patience job) (start job) ≡ going s → s .rest ≡ []
+  pub over-in-time : (s : State) → run job (follow events) (mostTicks job) (start job) ≡ going s → s .rest ≡ []
   over-in-time s e =
       by-test (finished (s .rest)) (is-over (s .rest))
       (λ f.
       let more : 0 < length (s .rest) = is-more (s .rest) f in
-      let a : AlongBetween job events s = along (patience job) s e in
-      let g : SaneState job s = sane job (follow events) p (patience job) s e in
+      let a : AlongBetween job events s = along (mostTicks job) s e in
+      let g : SaneState job s = sane job (follow events) p (mostTicks job) s e in
       let left : s .next + length (s .rest) ≡ length (job .draws) = remaining job (s .next) (s .rest) (s .slots) (s .loading) g in
-      let used : s .tick ≡ 0 + patience job = run-ticks job (follow events) (patience job) (start job) s e more in
+      let used : s .tick ≡ 0 + mostTicks job = run-ticks job (follow events) (mostTicks job) (start job) s e more in
       absurd (omega arith))

@@ -13,12 +13,12 @@ use Rattle.rules.specs.Order.{Verdict, clear, met, firstOf}
 use Rattle.rules.specs.Job.{Job, shapeOf, drawsOf, jobOf}
 use Rattle.rules.specs.LoadList.{Event, eventsOf}
 use Rattle.rules.specs.Display.{State, going, refused, unless, start, run}
-use Rattle.rules.specs.Refusals.{jobTests, readJob, badList, shortCheck, unruly, follow, patience, closing, follows, checkTests, checked}
+use Rattle.rules.specs.Refusals.{jobTests, readJob, badList, shortCheck, firstBadTick, follow, mostTicks, closing, follows, checkTests, checked}
 use Rattle.laws.proofs.Cases.{by-test, neither}
 use Rattle.laws.proofs.Verdicts.{clear-of, clear-append, unless-going, step, end, gives}
 use Rattle.laws.proofs.Moves.{then-going}
 use Rattle.laws.proofs.Jobs.{Proper, proper, clear-taken, past-job}
-use Rattle.laws.proofs.Along.{Ruly, unruly-within, AlongBetween, along, over-in-time}
+use Rattle.laws.proofs.Along.{Ruly, bad-tick-within, AlongBetween, along, over-in-time}
 
 -- A check that is not refused: the job is taken, the list can be read, the lent room suffices, no event is out of order, and the run
 -- along the list is over with every event begun.
@@ -28,28 +28,28 @@ pub record Accepted (job list : List ℕ) (ticks slots : ℕ) (s : State) : Type
   pub tick-room : length (drawsOf job) ≤ ticks
   pub slot-room : length (drawsOf job) ≤ slots
   pub ordered : Ruly 0 (eventsOf list)
-  pub ran : run (jobOf job) (follow (eventsOf list)) (patience (jobOf job)) (start (jobOf job)) ≡ going s
+  pub ran : run (jobOf job) (follow (eventsOf list)) (mostTicks (jobOf job)) (start (jobOf job)) ≡ going s
   pub over : s .rest ≡ []
   pub all-begun : s .loads ≡ length (eventsOf list)
 
 -- Where no event is out of order the list is in order.
-pub in-order : (events : List Event) → ltb (unruly 0 events) (length events) ≡ false → Ruly 0 events
+pub in-order : (events : List Event) → ltb (firstBadTick 0 events) (length events) ≡ false → Ruly 0 events
 in-order events e =
-    let at-least : length events ≤ unruly 0 events = ltb-false _ _ e in
-    let at-most : unruly 0 events ≤ length events = unruly-within 0 events in
+    let at-least : length events ≤ firstBadTick 0 events = ltb-false _ _ e in
+    let at-most : firstBadTick 0 events ≤ length events = bad-tick-within 0 events in
     omega arith
 
 -- A run along a list in order that is accepted.
 followed : (job : Job) (events : List Event) → Proper job → Ruly 0 events → (s : State) → follows job events ≡ going s
-    → (run job (follow events) (patience job) (start job) ≡ going s) × (s .loads ≡ length events)
+    → (run job (follow events) (mostTicks job) (start job) ≡ going s) × (s .loads ≡ length events)
 followed job events p ordered s e =
-    let (last, ran, closed) = then-going (run job (follow events) (patience job) (start job)) (closing events) s e in
+    let (last, ran, closed) = then-going (run job (follow events) (mostTicks job) (start job)) (closing events) s e in
     by-test (ltb (last .loads) (length events))
     (λ c. let g : refused 14 (last .loads) ≡ going s = rw c at closed in let z : _≡_ {A = ℕ} 0 1 = cc in absurd (omega arith))
     (λ c.
     let same : last ≡ s = let z : going last ≡ going s = rw c at closed in cc in
-    let ran′ : run job (follow events) (patience job) (start job) ≡ going s = ran ∙ ap going same in
-    let a : AlongBetween job events s = along job events p ordered (patience job) s ran′ in
+    let ran′ : run job (follow events) (mostTicks job) (start job) ≡ going s = ran ∙ ap going same in
+    let a : AlongBetween job events s = along job events p ordered (mostTicks job) s ran′ in
     let all : length events ≤ s .loads = rw same at (ltb-false (last .loads) (length events) c) in
     (ran′, omega arith))
 
@@ -75,7 +75,7 @@ checked-follows job list ticks slots shape taken good tick-room slot-room ordere
     (past-job job (readJob job) shape refl taken
     (step false (sym good) refl
     (step false (rw (le-ltb ticks (length (drawsOf job)) tick-room, le-ltb slots (length (drawsOf job)) slot-room)) refl
-    (step false (rw (le-ltb (unruly 0 (eventsOf list)) (length (eventsOf list)) (omega arith))) refl
+    (step false (rw (le-ltb (firstBadTick 0 (eventsOf list)) (length (eventsOf list)) (omega arith))) refl
     end)))))
 
 -- A check that comes to a state is past its tests, and then it is the run along the list that comes to it.

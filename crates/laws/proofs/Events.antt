@@ -8,10 +8,10 @@ use lib.ListN.{length, getD, drop, length-drop, drop-of-length-le}
 use lib.Seq.{drop-cons, drop-drop}
 use lib.Dec.{ltb}
 use borrow.Author.Tests.{lt-ltb, le-ltb, eq-eqb, ne-eqb}
-use Rattle.rules.specs.declared.Begun.the-variants.{Load, NoLoad}
+use Rattle.rules.specs.declared.MaybeLoad.the-variants.{Load, NoLoad}
 use Rattle.rules.specs.declared.EventReading.the-variants as reading
 use Rattle.rules.specs.LoadList.{Event, event, head-size, event-size, event-at, last-tick, eventIn, readEvent, eventsIn}
-use Rattle.rules.specs.Refusals.{unruly, due}
+use Rattle.rules.specs.Refusals.{firstBadTick, due}
 use Rattle.laws.proofs.Cases.{by-test}
 
 pub length-eventsIn : (m : ℕ) (b : List ℕ) → length (eventsIn m b) ≡ m
@@ -49,17 +49,17 @@ module _ (m i : ℕ) (list : List ℕ) (within : i < m) where
       omega arith
 
 -- The walk of refusal 9 stops at an event whose tick is over the limit or too low, and goes on behind any other.
-pub unruly-over : (least t q x : ℕ) (l : List Event) → last-tick < t → unruly least (event t q x ∷ l) ≡ 0
-unfolding unruly
-unruly-over least t q x l h = rw (lt-ltb last-tick t h)
+pub bad-tick-over : (least t q x : ℕ) (l : List Event) → last-tick < t → firstBadTick least (event t q x ∷ l) ≡ 0
+unfolding firstBadTick
+bad-tick-over least t q x l h = rw (lt-ltb last-tick t h)
 
-pub unruly-low : (least t q x : ℕ) (l : List Event) → t ≤ last-tick → t < least → unruly least (event t q x ∷ l) ≡ 0
-unfolding unruly
-unruly-low least t q x l h low = rw (le-ltb last-tick t h, lt-ltb t least low)
+pub bad-tick-low : (least t q x : ℕ) (l : List Event) → t ≤ last-tick → t < least → firstBadTick least (event t q x ∷ l) ≡ 0
+unfolding firstBadTick
+bad-tick-low least t q x l h low = rw (le-ltb last-tick t h, lt-ltb t least low)
 
-pub unruly-further : (least t q x : ℕ) (l : List Event) → t ≤ last-tick → least ≤ t → unruly least (event t q x ∷ l) ≡ suc (unruly (t + 1) l)
-unfolding unruly
-unruly-further least t q x l h high = rw (le-ltb last-tick t h, le-ltb t least high)
+pub bad-tick-further : (least t q x : ℕ) (l : List Event) → t ≤ last-tick → least ≤ t → firstBadTick least (event t q x ∷ l) ≡ suc (firstBadTick (t + 1) l)
+unfolding firstBadTick
+bad-tick-further least t q x l h high = rw (le-ltb last-tick t h, le-ltb t least high)
 
 -- An event is due when its tick has come, and none is where no event is left.
 pub due-now : (t q x now : ℕ) (l : List Event) → t ≡ now → due (event t q x ∷ l) now ≡ Load q x
@@ -74,6 +74,6 @@ pub due-none : (l : List Event) (i now : ℕ) → length l ≤ i → due (drop i
 unfolding due
 due-none l i now h = ap (λ (r : List Event). due r now) (drop-of-length-le l h)
 
-pub unruly-none : (least i : ℕ) (l : List Event) → length l ≤ i → unruly least (drop i l) ≡ 0
-unfolding unruly
-unruly-none least i l h = ap (unruly least) (drop-of-length-le l h)
+pub bad-tick-none : (least i : ℕ) (l : List Event) → length l ≤ i → firstBadTick least (drop i l) ≡ 0
+unfolding firstBadTick
+bad-tick-none least i l h = ap (firstBadTick least) (drop-of-length-le l h)

@@ -4,8 +4,8 @@ use mathlib.Core.Path.{_≡_, refl, ap}
 use mathlib.Core.Bool.{Bool, false}
 use lib.ListN.{length}
 use lib.Dec.{eqb}
-use Rattle.rules.specs.declared.Begun.{Begun}
-use Rattle.rules.specs.declared.Begun.the-variants.{Load, NoLoad}
+use Rattle.rules.specs.declared.MaybeLoad.{MaybeLoad}
+use Rattle.rules.specs.declared.MaybeLoad.the-variants.{Load, NoLoad}
 use Rattle.rules.specs.declared.Loading.{Loading}
 use Rattle.rules.specs.declared.Loading.the-variants.{Idle, Under}
 use Rattle.rules.specs.declared.Happening.the-variants.{Wait}
@@ -27,7 +27,7 @@ pub record Goes (job : Job) (rule : Rule) (L B : State → Type 0) : Type 0 wher
 
 module _ (job : Job) (rule : Rule) (P L B : State → Type 0) (keeps : Moves job rule P L B)
     (goes : Goes job rule L B) where
-  begins-at-all : (b : Begun) (s : State) → rule .asks s ≡ b → 0 < length (s .rest) → L s → (s′ : State) × (beginning job b s ≡ going s′)
+  begins-at-all : (b : MaybeLoad) (s : State) → rule .asks s ≡ b → 0 < length (s .rest) → L s → (s′ : State) × (beginning job b s ≡ going s′)
   unfolding beginning
   begins-at-all NoLoad s a more l = (s, refl)
   begins-at-all (Load q x) s a more l = (begin job q x s, ap (λ (v : Verdict). unless v (going (begin job q x s))) (goes .loads q x s more a l))

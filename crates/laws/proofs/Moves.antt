@@ -8,8 +8,8 @@ use mathlib.Core.List.{List, [], _∷_}
 use lib.ListN.{length}
 use lib.Dec.{eqb}
 use borrow.Author.Tests.{ltb-true, lt-ltb, eqb-false, ne-eqb, not-false}
-use Rattle.rules.specs.declared.Begun.{Begun}
-use Rattle.rules.specs.declared.Begun.the-variants.{Load, NoLoad}
+use Rattle.rules.specs.declared.MaybeLoad.{MaybeLoad}
+use Rattle.rules.specs.declared.MaybeLoad.the-variants.{Load, NoLoad}
 use Rattle.rules.specs.declared.Loading.{Loading}
 use Rattle.rules.specs.declared.Loading.the-variants.{Idle, Under}
 use Rattle.rules.specs.declared.Happening.{Happening}
@@ -17,7 +17,7 @@ use Rattle.rules.specs.declared.Happening.the-variants.{Wait}
 use Rattle.rules.specs.Basics.{place, stands}
 use Rattle.rules.specs.Job.{Job, free}
 use Rattle.rules.specs.Order.{Verdict, clear, met, firstOf, numberIn}
-use Rattle.rules.specs.Display.{State, Run, Rule, going, refused, land, begin, idle, loadTests, loadNumber, beginning, awaited, causeOf, happeningOf, draw, wait, stuck, moved, happened, then, tick, finished, run}
+use Rattle.rules.specs.Display.{State, Run, Rule, going, refused, land, begin, idle, loadTests, loadRefusal, beginning, awaited, causeOf, happeningOf, draw, wait, stuck, moved, happened, then, tick, finished, run}
 use Rattle.laws.proofs.Cases.{by-test, neither}
 use Rattle.laws.proofs.Verdicts.{clear-of, Each, met-by, unless-going, unless-refused, step, end, gives}
 
@@ -85,15 +85,15 @@ load-free job q x s quiet slot symbol nowhere =
     (step false (rw quiet) refl (step false (rw (lt-ltb q (job .slots) slot)) refl (step false (rw (ne-eqb x free symbol, nowhere)) refl end)))
 
 -- The number of a load tells what it meets: with 0 no test, with any other the test of that number, and the detail is the event.
-pub load-clear : (job : Job) (q x : ℕ) (s : State) → loadNumber job q x s ≡ 0 → firstOf (loadTests job q x s) ≡ clear
+pub load-clear : (job : Job) (q x : ℕ) (s : State) → loadRefusal job q x s ≡ 0 → firstOf (loadTests job q x s) ≡ clear
 load-clear job q x s e = by-verdict (firstOf (loadTests job q x s)) refl e
   where
     by-verdict : (v : Verdict) → firstOf (loadTests job q x s) ≡ v → numberIn v ≡ 0 → v ≡ clear
     by-verdict clear is none = refl
     by-verdict (met n d) is none = absurd (met-by (λ m c. m ≡ 0 → ⊥) (loadTests job q x s) n d (unfold Each in search arith) is none)
 
-pub load-met : (job : Job) (q x : ℕ) (s : State) → (loadNumber job q x s ≡ 0 → ⊥)
-    → firstOf (loadTests job q x s) ≡ met (loadNumber job q x s) (s .loads)
+pub load-met : (job : Job) (q x : ℕ) (s : State) → (loadRefusal job q x s ≡ 0 → ⊥)
+    → firstOf (loadTests job q x s) ≡ met (loadRefusal job q x s) (s .loads)
 load-met job q x s some = by-verdict (firstOf (loadTests job q x s)) refl some
   where
     by-verdict : (v : Verdict) → firstOf (loadTests job q x s) ≡ v → (numberIn v ≡ 0 → ⊥) → v ≡ met (numberIn v) (s .loads)
@@ -127,7 +127,7 @@ abbrev pub Moves : Job → Rule → (State → Type 0) → (State → Type 0) �
 Moves job rule P L B = Steps job rule P L B P
 
 module _ (job : Job) (rule : Rule) (P L B A : State → Type 0) (keeps : Steps job rule P L B A) where
-  pub begun-kept : (b : Begun) (s s′ : State) → rule .asks s ≡ b → 0 < length (s .rest) → L s → beginning job b s ≡ going s′
+  pub begun-kept : (b : MaybeLoad) (s s′ : State) → rule .asks s ≡ b → 0 < length (s .rest) → L s → beginning job b s ≡ going s′
       → (0 < length (s′ .rest)) × B s′
   unfolding beginning
   begun-kept NoLoad s s′ a more h e =

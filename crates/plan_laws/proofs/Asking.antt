@@ -3,7 +3,7 @@ use Prim.Native.Nat.{ℕ}
 use native.Mathlib.Omega.{arith}
 use mathlib.Core.Path.{_≡_, refl}
 use mathlib.Core.Bool.{Bool, true, false, cond, _&&_}
-use Rattle.rules.specs.declared.Begun.the-variants.{Load, NoLoad}
+use Rattle.rules.specs.declared.MaybeLoad.the-variants.{Load, NoLoad}
 
 -- A load that was asked for is the one under the test, and the test held.
 pub asked-load : (test : Bool) (q x q′ x′ : ℕ) → cond test (Load q x) NoLoad ≡ Load q′ x′ → (test ≡ true) × (q ≡ q′) × (x ≡ x′)

@@ -5,7 +5,7 @@ use native.Mathlib.Omega.{arith}
 use native.Mathlib.Nat.{mul-add, mul-one}
 use mathlib.Core.Path.{_≡_, refl, ap, _∙_}
 use mathlib.Core.Bool.{true, false}
-use Rattle.rules.specs.declared.Begun.{Begun}
+use Rattle.rules.specs.declared.MaybeLoad.{MaybeLoad}
 use Rattle.rules.specs.declared.Loading.{Loading}
 use Rattle.rules.specs.declared.Loading.the-variants.{Idle, Under}
 use Rattle.rules.specs.Job.{Job}
@@ -31,7 +31,7 @@ wait-used (Under left q x) h = omega arith
 pub one-more : (f l : ℕ) → f * (l + 1) ≡ f * l + f
 one-more f l = mul-add f l 1 ∙ ap (λ (n : ℕ). f * l + n) (mul-one f)
 
-module _ (job : Job) (asks : State → Begun) (some-time : 1 ≤ job .time) where
+module _ (job : Job) (asks : State → MaybeLoad) (some-time : 1 ≤ job .time) where
   abbrev Spent : State → Type 0
   Spent s = s .waits + ahead (landedLoading (s .loading)) ≤ job .time * s .loads
 

@@ -9,8 +9,8 @@ use lib.ListN.{length, getD, take, drop, length-drop, length-map}
 use lib.Seq.{set-set, drop-drop, take-add, take-all}
 use lib.Dec.{leb}
 use borrow.Author.Tests.{leb-true, le-leb}
-use Rattle.rules.specs.declared.Begun.{Begun}
-use Rattle.rules.specs.declared.Begun.the-variants.{Load, NoLoad}
+use Rattle.rules.specs.declared.MaybeLoad.{MaybeLoad}
+use Rattle.rules.specs.declared.MaybeLoad.the-variants.{Load, NoLoad}
 use Rattle.rules.specs.declared.Loading.{Loading}
 use Rattle.rules.specs.declared.Loading.the-variants.{Idle, Under}
 use Rattle.rules.specs.Basics.{place, stands}
@@ -45,7 +45,7 @@ settled-idle Idle slots e = refl
 settled-idle (Under left q x) slots e = let impossible : _≡_ {A = ℕ} 0 1 = cc in absurd (omega arith)
 
 -- A load as what the display is asked for: its slot and its symbol.
-abbrev pub loadOf : Loaded → Begun
+abbrev pub loadOf : Loaded → MaybeLoad
 loadOf (loaded t d q x) = Load q x
 
 -- The load asked for is the first of those still to make, and what goes out is not drawn before its miss.

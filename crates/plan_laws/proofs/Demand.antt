@@ -12,7 +12,7 @@ use Rattle.rules.specs.declared.Shape.{Shape}
 use Rattle.rules.specs.Job.{Job, jobOf, drawsOf, shapeOf}
 use Rattle.rules.specs.LoadList.{head-size, event-size, eventsOf}
 use Rattle.rules.specs.Display.{State, Rule, going, start, landedSlots, landedLoading, run}
-use Rattle.rules.specs.Refusals.{readJob, follow, patience, checked, planned}
+use Rattle.rules.specs.Refusals.{readJob, follow, mostTicks, checked, planned}
 use Rattle.laws.proofs.Jobs.{Proper, proper}
 use Rattle.laws.proofs.Sane.{SaneMoves, reached-sanely}
 use Rattle.laws.proofs.Counts.{elapsed}
@@ -107,7 +107,7 @@ conservative-best job list ticks slots s e room enough =
     let d = conservative-done (jobOf job) good in (
       d .last,
       planned-done job (shapeOf job) 1 room (a .job-taken) (omega arith) enough d,
-      conservative-better (jobOf job) good (follow (eventsOf list)) (patience (jobOf job)) s (a .ran) (a .over),
+      conservative-better (jobOf job) good (follow (eventsOf list)) (mostTicks (jobOf job)) s (a .ran) (a .over),
     )
 
 -- Of every job that is taken, with room enough, conservative is never later than opt, and makes opt's loads in opt's order.

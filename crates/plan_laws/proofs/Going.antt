@@ -5,8 +5,8 @@ use mathlib.Core.Path.{_≡_, refl, sym, ap, _∙_}
 use mathlib.Core.Bool.{Bool, true, false, cond}
 use mathlib.Core.List.{List}
 use lib.Dec.{eqb}
-use Rattle.rules.specs.declared.Begun.{Begun}
-use Rattle.rules.specs.declared.Begun.the-variants.{Load, NoLoad}
+use Rattle.rules.specs.declared.MaybeLoad.{MaybeLoad}
+use Rattle.rules.specs.declared.MaybeLoad.the-variants.{Load, NoLoad}
 use Rattle.rules.specs.declared.Loading.{Loading}
 use Rattle.rules.specs.declared.Loading.the-variants.{Idle, Under}
 use Rattle.rules.specs.declared.Happening.the-variants.{Draw, Wait}
@@ -25,7 +25,7 @@ unstuck (Under left q y) x slots d h =
     by-test (stands x slots) (λ e. rw e) (λ e. rw e (by-test (eqb x y) (λ f. rw f) (λ f. rw f)))
 
 -- A plan that is ready in a state asks only for a load that the display takes, and for one where the draw would wait with none under way.
-pub record Ready (job : Job) (asks : State → Begun) (s : State) : Type 0 where
+pub record Ready (job : Job) (asks : State → MaybeLoad) (s : State) : Type 0 where
   pub permitted : (q x : ℕ) → asks s ≡ Load q x → firstOf (loadTests job q x s) ≡ clear
   pub served : asks s ≡ NoLoad → s .loading ≡ Idle → stands (awaited s) (s .slots) ≡ true
 
@@ -36,8 +36,8 @@ goes-through s h =
     (moved (happeningOf s) s, rw (unstuck (s .loading) (awaited s) (s .slots) true (λ quiet unheld. sym (h quiet) ∙ unheld)))
 
 -- Where a plan is ready, the tick is not refused, whether a load begins in it or not.
-module _ (job : Job) (asks : State → Begun) (s : State) (ready : Ready job asks (land s)) where
-  begins-or-not : (b : Begun) → asks (land s) ≡ b
+module _ (job : Job) (asks : State → MaybeLoad) (s : State) (ready : Ready job asks (land s)) where
+  begins-or-not : (b : MaybeLoad) → asks (land s) ≡ b
       → (s′ : State) × (then (beginning job b (land s)) (λ z. happened (happeningOf z) true z) ≡ going s′)
   unfolding beginning
   begins-or-not NoLoad e = goes-through (land s) (ready .served e)

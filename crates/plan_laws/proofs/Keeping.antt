@@ -5,7 +5,7 @@ use native.Mathlib.Nat.{mul-le-mul}
 use mathlib.Core.Path.{_≡_, refl, _∙_}
 use mathlib.Core.List.{[], map}
 use lib.ListN.{length}
-use Rattle.rules.specs.declared.Begun.{Begun}
+use Rattle.rules.specs.declared.MaybeLoad.{MaybeLoad}
 use Rattle.rules.specs.Job.{Job, most-time, most-draws}
 use Rattle.rules.specs.LoadList.{last-tick}
 use Rattle.rules.specs.Display.{State, Rule, going, start, land, tick, finished, run}
@@ -53,7 +53,7 @@ done-with job rule Q d also =
     }
 
 -- A plan's run, for what its moves keep beside sanity and what makes it ready.
-module _ (job : Job) (proper : Proper job) (asks : State → Begun) (P : State → Type 0)
+module _ (job : Job) (proper : Proper job) (asks : State → MaybeLoad) (P : State → Type 0)
     (keeps : SaneMoves job (asking asks) P P P) (starts : P (start job))
     (ready : (s : State) → 0 < length (s .rest) → SaneState job s → P s → Ready job asks s) where
   holds : (t : ℕ) (s : State) → run job (asking asks) t (start job) ≡ going s → P s

@@ -9,15 +9,15 @@ use lib.ListN.{length, getD, drop, length-map, length-append}
 use lib.Seq.{drop-at}
 use lib.Dec.{leb}
 use borrow.Author.Tests.{eq-eqb, ne-eqb, le-ltb, lt-leb}
-use Rattle.rules.specs.declared.Begun.{Begun}
-use Rattle.rules.specs.declared.Begun.the-variants.{Load, NoLoad}
+use Rattle.rules.specs.declared.MaybeLoad.{MaybeLoad}
+use Rattle.rules.specs.declared.MaybeLoad.the-variants.{Load, NoLoad}
 use Rattle.rules.specs.declared.Loading.{Loading}
 use Rattle.rules.specs.declared.Loading.the-variants.{Idle, Under}
 use Rattle.rules.specs.Basics.{stands}
 use Rattle.rules.specs.Job.{Job}
 use Rattle.rules.specs.LoadList.{Event, event, last-tick}
 use Rattle.rules.specs.Display.{State, Run, Rule, going, refused, start, landedSlots, landedLoading, land, beginning, awaited, happeningOf, wait, moved, happened, then, tick, finished, run}
-use Rattle.rules.specs.Refusals.{unruly, due, follow, patience, follows, eventOf}
+use Rattle.rules.specs.Refusals.{firstBadTick, due, follow, mostTicks, follows, eventOf}
 use Rattle.laws.proofs.Cases.{by-test}
 use Rattle.laws.proofs.Moves.{Moves, reached, then-going, beginning-going, happened-going, tick-kept, is-more}
 use Rattle.laws.proofs.Runs.{run-finished, run-unfinished, run-longer, tick-ticks}
@@ -31,24 +31,24 @@ pub data Ordered : ℕ → ℕ → List Event → Type 0 where
 
 -- Such a list has no event that refusal 9 meets.
 pub ordered-ruly : {u v : ℕ} {l : List Event} → v ≤ last-tick + 1 → Ordered u v l → Ruly u l
-unfolding unruly
+unfolding firstBadTick
 ordered-ruly few none = refl
 ordered-ruly {u} {v} few (one {t = t} least most later) =
     rw (le-ltb last-tick t (omega arith), le-ltb t u (omega arith), ordered-ruly few later)
 
 -- What begins in a tick, as an event of it.
-abbrev begunAt : ℕ → Begun → List Event
+abbrev begunAt : ℕ → MaybeLoad → List Event
 begunAt t NoLoad = []
 begunAt t (Load q x) = event t q x ∷ []
 
 -- A list whose next event is what begins in this tick, all others being later, asks for just that.
-due-now : (t v : ℕ) (a : Begun) (later : List Event) → Ordered (t + 1) v later → due (begunAt t a ++ later) t ≡ a
+due-now : (t v : ℕ) (a : MaybeLoad) (later : List Event) → Ordered (t + 1) v later → due (begunAt t a ++ later) t ≡ a
 unfolding due
 due-now t v NoLoad later none = refl
 due-now t v NoLoad later (one {t = u} least most r) = rw (ne-eqb u t (λ e. omega arith))
 due-now t v (Load q x) later r = rw (eq-eqb t t refl)
 
-ordered-now : (t v : ℕ) (a : Begun) (later : List Event) → t < v → Ordered (t + 1) v later → Ordered t v (begunAt t a ++ later)
+ordered-now : (t v : ℕ) (a : MaybeLoad) (later : List Event) → t < v → Ordered (t + 1) v later → Ordered t v (begunAt t a ++ later)
 ordered-now t v NoLoad later h none = none
 ordered-now t v NoLoad later h (one {t = u} least most r) = one {u = t} {t = u} (omega arith) most r
 ordered-now t v (Load q x) later h r = one {u = t} {t = t} (omega arith) h r
@@ -86,7 +86,7 @@ then-also (going s) f g s′ e h = h s refl e
 then-also (refused number detail) f g s′ e h = e
 
 -- What begins leaves the draws as they are.
-begins-rest : (job : Job) (b : Begun) (s z : State) → beginning job b s ≡ going z → s .rest ≡ z .rest
+begins-rest : (job : Job) (b : MaybeLoad) (s z : State) → beginning job b s ≡ going z → s .rest ≡ z .rest
 unfolding beginning
 begins-rest job NoLoad s z e = ap (λ (s : State). s .rest) (let same : s ≡ z = cc in same)
 begins-rest job (Load q x) s z e = ap (λ (s : State). s .rest) (beginning-going job q x s z e .1)
@@ -230,13 +230,13 @@ module _ (job : Job) (rule : Rule) where
     Events = map eventOf (last .begun)
 
     -- The list of what was begun, followed, comes to the same last state, and no event is left.
-    pub replay : t ≤ patience job → follows job Events ≡ going last
+    pub replay : t ≤ mostTicks job → follows job Events ≡ going last
     replay enough =
         let r : Replayed t (start job) last = replayed t (start job) last refl ran over in
         let count : length (last .begun) ≡ last .loads = r .count in
         let all : length Events ≡ length (last .begun) = length-map (last .begun) eventOf in
-        let longer : run job (follow Events) (patience job) (start job) ≡ going last =
-        run-longer job (follow Events) t (patience job) (start job) last enough (r .same) (ap finished over) in
+        let longer : run job (follow Events) (mostTicks job) (start job) ≡ going last =
+        run-longer job (follow Events) t (mostTicks job) (start job) last enough (r .same) (ap finished over) in
         rw (longer, le-ltb (last .loads) (length Events) (omega arith))
 
     -- Its ticks rise strictly, so where the run was over in time it is in order.

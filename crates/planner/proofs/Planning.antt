@@ -26,7 +26,7 @@ use Rattle.display.specs.View.{view}
 use Rattle.planner.specs.declared.run.Ran.{Ran}
 use Rattle.choice.specs.Asks.{rowOf}
 use Rattle.planner.specs.Loads.{Lists, Noted, Written, Fitting, loadDraw, loadSlot, loadSymbol}
-use Rattle.planner.specs.Runs.{Limits, Shown, Planned, Roomy, CarriedOut}
+use Rattle.planner.specs.Runs.{Limits, Shown, Planned, HasRoom, CarriedOut}
 use Rattle.choice.proofs.Turned.{length-rowOf}
 
 -- ---- The order of the refusals, as the code meets it
@@ -39,7 +39,7 @@ room-test job reading shape room r is taken e = rw (draws-many job shape (sym is
 
 -- What the run asks for is known past the tests.
 pub roomy : (job : List ℕ) (reading : JobReading) (shape : Shape) (room : List ℕ) (r : Bool) → reading ≡ readJob job → reading ≡ Taken shape
-    → r ≡ ltb (length room) (head-size + event-size * shape .draws) → r ≡ false → Roomy job shape room
+    → r ≡ ltb (length room) (head-size + event-size * shape .draws) → r ≡ false → HasRoom job shape room
 unfolding shortPlan
 roomy job reading shape room r is taken e fails =
     record {
@@ -145,13 +145,13 @@ module _ (job : List ℕ) (shape : Shape) (taken : readJob job ≡ Taken shape) 
       ∙ ap begunIn (sym (done job shape taken p r ticks draws slots symbols (ran .shown) .ran)) in
       record {
         for = ap (λ (l : List Loaded). map loadDraw l) (sym same) ∙ noted .for;
-        slots = ap (λ (l : List Loaded). map loadSlot l) (sym same) ∙ noted .into;
-        symbols = ap (λ (l : List Loaded). map loadSymbol l) (sym same) ∙ noted .what;
+        slots = ap (λ (l : List Loaded). map loadSlot l) (sym same) ∙ noted .targets;
+        symbols = ap (λ (l : List Loaded). map loadSymbol l) (sym same) ∙ noted .arrivals;
       }
 
   -- They are written as they are noted.
   pub written : Written (ran .shown .beside .begun) (r .display .loads) ticks slots symbols
-  written = record { many = noted .many; at = noted .at; into = noted .into; what = noted .what }
+  written = record { many = noted .many; at = noted .at; targets = noted .targets; arrivals = noted .arrivals }
 
   pub fitting : length ticks ≡ most-draws → length slots ≡ most-draws → length symbols ≡ most-draws
       → (room : List ℕ) → head-size + event-size * length (drawsOf job) ≤ length room

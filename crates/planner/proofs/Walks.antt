@@ -9,8 +9,8 @@ use lib.ListN.{length, getD, take, drop, drop-of-length-le, length-set}
 use lib.Seq.{take-suc-set}
 use lib.Dec.{leb}
 use borrow.Author.Tests.{eq-eqb, le-leb, lt-leb}
-use Rattle.rules.specs.declared.Begun.{Begun}
-use Rattle.rules.specs.declared.Begun.the-variants.{Load, NoLoad}
+use Rattle.rules.specs.declared.MaybeLoad.{MaybeLoad}
+use Rattle.rules.specs.declared.MaybeLoad.the-variants.{Load, NoLoad}
 use Rattle.rules.specs.declared.Happening.{Happening}
 use Rattle.rules.specs.declared.Happening.the-variants.{Draw, Wait}
 use Rattle.rules.specs.declared.TickRecord.{TickRecord}
@@ -26,7 +26,7 @@ use Rattle.laws.proofs.Rows.{map-snoc, length-snoc}
 use Rattle.laws.proofs.Moves.{tick-kept, is-more}
 use Rattle.display.specs.declared.state.Display.{Display}
 use Rattle.display.specs.declared.tick.Ticked.{Ticked}
-use Rattle.display.specs.View.{Beside, view, besideBegun, besideMade, onward}
+use Rattle.display.specs.View.{History, view, historyBegun, historyMade, onward}
 use Rattle.display.specs.Tick.{Ticks}
 use Rattle.display.specs.Still.{passed, Rested}
 use Rattle.display.proofs.Views.{nearer, under-way}
@@ -47,7 +47,7 @@ same-tick : (plan : ℕ) (job : Job) (order : Order) (s : State)
 unfolding tick
 same-tick zero job order s e = refl
 same-tick (suc zero) job order s e =
-    ap (λ (x : Begun). then (beginning job x (land s)) (λ b. happened (recordOf x b .happening) true b)) (e refl)
+    ap (λ (x : MaybeLoad). then (beginning job x (land s)) (λ b. happened (recordOf x b .happening) true b)) (e refl)
 same-tick (suc (suc zero)) job order s e = refl
 same-tick (suc (suc (suc plan))) job order s e = refl
 
@@ -63,18 +63,18 @@ ruled plan job order held held′ d r ordered ticks =
 
 -- What is asked for with the landed display at hand is what the plan asks for in its state.
 pub asked-landed : (plan : ℕ) (job : List ℕ) (shape : Shape) (order : Order) (row held held₁ : List ℕ) (d l : Display)
-    → ((h : Beside) → view held₁ h l ≡ land (view held h d))
-    → (symbol : ℕ) (asked : Begun)
+    → ((h : History) → view held₁ h l ≡ land (view held h d))
+    → (symbol : ℕ) (asked : MaybeLoad)
     → shape ≡ shapeOf job
     → d .next < shape .draws
     → symbol ≡ number16 job (draws-at (shape .slots) + 2 * l .next)
     → rowOf plan (drawsOf job) ≡ row
-    → ((h : Beside) (job′ : Job)
+    → ((h : History) (job′ : Job)
     → rowOf plan (job′ .draws) ≡ row
     → h .rest ≡ drop (l .next) (job′ .draws)
     → awaited (view held₁ h l) ≡ symbol
     → asked ≡ asksBy plan job′ order (view held₁ h l))
-    → (h : Beside)
+    → (h : History)
     → h .rest ≡ drop (d .next) (drawsOf job)
     → asked ≡ asksBy plan (jobOf job) order (view held₁ h l)
 asked-landed plan job shape order row held held₁ d l lands symbol asked shaped within read turned asks h remain =
@@ -99,43 +99,43 @@ pub waits-none : (d : Display) → Waits d 0
 waits-none d = record { before-end = λ ends. omega arith; under-way = λ some. absurd (omega arith) }
 
 -- Each tick of the stretch is a wait and no more, whatever the slots hold.
-pub calm : (plan : ℕ) (job : Job) (slots : List ℕ) (h : Beside) (d : Display) (m : ℕ) → Waits d m → (j : ℕ) → j < m
+pub calm : (plan : ℕ) (job : Job) (slots : List ℕ) (h : History) (d : Display) (m : ℕ) → Waits d m → (j : ℕ) → j < m
     → Quiet job (ruleOf job plan) slots h (passed j d)
 calm plan job slots h d m w j less =
-    let some : 0 < d .until = w .under-way (omega arith) in
-    let beyond : d .until - m ≡ 0 → d .until ≡ 0 = w .before-end in
-    let far : (d .until - j - 1 ≡ 0 → ⊥) = λ none. let idle′ : d .until ≡ 0 = beyond (omega arith) in omega arith in
+    let some : 0 < d .remaining = w .under-way (omega arith) in
+    let beyond : d .remaining - m ≡ 0 → d .remaining ≡ 0 = w .before-end in
+    let far : (d .remaining - j - 1 ≡ 0 → ⊥) = λ none. let idle′ : d .remaining ≡ 0 = beyond (omega arith) in omega arith in
     record {
       asks =
           rule-busy plan job (view slots h (nearer (passed j d)))
-          (ap idle (under-way (d .until - j - 1) (d .into) (d .what) far));
+          (ap idle (under-way (d .remaining - j - 1) (d .target) (d .incoming) far));
       far = λ last. far (omega arith);
       goes-on = λ none. absurd (far (omega arith));
     }
 
 -- ---- The loads noted
 
-made-begun : (d : Display) (hp : Happening) (h : Beside) → besideMade d hp h .begun ≡ h .begun
+made-begun : (d : Display) (hp : Happening) (h : History) → historyMade d hp h .begun ≡ h .begun
 made-begun d (Draw q) h = refl
 made-begun d (Wait cause) h = refl
 
 -- A row after a tick holds the number of one load more, or what it held; f says which number, and `what` how the code comes by it.
-row-more : (f : Loaded → ℕ) (what : ℕ → ℕ → ℕ) (d : Display) (b : Begun) (h : Beside) (m m′ : ℕ) (row : List ℕ)
-    → ((q x : ℕ) → f (loaded (d .tick) (d .next) q x) ≡ what q x)
+row-more : (f : Loaded → ℕ) (arrivals : ℕ → ℕ → ℕ) (d : Display) (b : MaybeLoad) (h : History) (m m′ : ℕ) (row : List ℕ)
+    → ((q x : ℕ) → f (loaded (d .tick) (d .next) q x) ≡ arrivals q x)
     → length (h .begun) ≡ m
-    → length (besideBegun d b h .begun) ≡ m′
+    → length (historyBegun d b h .begun) ≡ m′
     → m′ ≤ length row
     → map f (h .begun) ≡ take m row
-    → map f (besideBegun d b h .begun) ≡ take m′ (notedLoad b what m row)
-row-more f what d NoLoad h m m′ row notes many many′ room e = e ∙ ap (λ (n : ℕ). take n row) (sym many ∙ many′)
-row-more f what d (Load q x) h m m′ row notes many many′ room e =
+    → map f (historyBegun d b h .begun) ≡ take m′ (notedLoad b arrivals m row)
+row-more f arrivals d NoLoad h m m′ row notes many many′ room e = e ∙ ap (λ (n : ℕ). take n row) (sym many ∙ many′)
+row-more f arrivals d (Load q x) h m m′ row notes many many′ room e =
     let more : m′ ≡ suc m = sym many′ ∙ length-snoc (h .begun) (loaded (d .tick) (d .next) q x) ∙ rw (many, add-one) in
     map-snoc f (h .begun) (loaded (d .tick) (d .next) q x)
-    ∙ rw (e, notes q x, more) (sym (take-suc-set row m (what q x) (omega arith)))
+    ∙ rw (e, notes q x, more) (sym (take-suc-set row m (arrivals q x) (omega arith)))
 
-length-noted : (b : Begun) (what : ℕ → ℕ → ℕ) (at : ℕ) (row : List ℕ) → length (notedLoad b what at row) ≡ length row
-length-noted NoLoad what at row = refl
-length-noted (Load q x) what at row = length-set row at (what q x)
+length-noted : (b : MaybeLoad) (arrivals : ℕ → ℕ → ℕ) (at : ℕ) (row : List ℕ) → length (notedLoad b arrivals at row) ≡ length row
+length-noted NoLoad arrivals at row = refl
+length-noted (Load q x) arrivals at row = length-set row at (arrivals q x)
 
 -- At the loop's head the four rows hold the loads begun so far, as long as there is a place for each.
 pub record Held (l : List Loaded) (count : ℕ) (ticks draws slots symbols : List ℕ) : Type 0 where
@@ -144,18 +144,18 @@ pub record Held (l : List Loaded) (count : ℕ) (ticks draws slots symbols : Lis
 
 pub held-start : (ticks draws slots symbols : List ℕ) → Whole ticks draws slots symbols → Held [] 0 ticks draws slots symbols
 held-start ticks draws slots symbols whole =
-    record { noted = λ few. record { many = refl; at = refl; for = refl; into = refl; what = refl }; whole = whole }
+    record { noted = λ few. record { many = refl; at = refl; for = refl; targets = refl; arrivals = refl }; whole = whole }
 
-held-more : (d : Display) (b : Begun) (h : Beside) (m′ : ℕ) (ticks draws slots symbols ticks′ draws′ slots′ symbols′ : List ℕ)
+held-more : (d : Display) (b : MaybeLoad) (h : History) (m′ : ℕ) (ticks draws slots symbols ticks′ draws′ slots′ symbols′ : List ℕ)
     → length (h .begun) ≡ d .loads
-    → length (besideBegun d b h .begun) ≡ m′
+    → length (historyBegun d b h .begun) ≡ m′
     → d .loads ≤ m′
     → ticks′ ≡ notedLoad b (λ q x. d .tick) (d .loads) ticks
     → draws′ ≡ notedLoad b (λ q x. d .next) (d .loads) draws
     → slots′ ≡ notedLoad b (λ q x. q) (d .loads) slots
     → symbols′ ≡ notedLoad b (λ q x. x) (d .loads) symbols
     → Held (h .begun) (d .loads) ticks draws slots symbols
-    → Held (besideBegun d b h .begun) m′ ticks′ draws′ slots′ symbols′
+    → Held (historyBegun d b h .begun) m′ ticks′ draws′ slots′ symbols′
 held-more d b h m′ ticks draws slots symbols ticks′ draws′ slots′ symbols′ many many′ more e₁ e₂ e₃ e₄ held =
     let r₁ : length ticks ≡ most-draws = held .whole .ticks-room in
     let r₂ : length draws ≡ most-draws = held .whole .draws-room in
@@ -168,8 +168,8 @@ held-more d b h m′ ticks draws slots symbols ticks′ draws′ slots′ symbol
             many = many′;
             at = rw e₁ (row-more loadTick (λ q x. d .tick) d b h (d .loads) m′ ticks (λ q x. refl) many many′ (omega arith) (before .at));
             for = rw e₂ (row-more loadDraw (λ q x. d .next) d b h (d .loads) m′ draws (λ q x. refl) many many′ (omega arith) (before .for));
-            into = rw e₃ (row-more loadSlot (λ q x. q) d b h (d .loads) m′ slots (λ q x. refl) many many′ (omega arith) (before .into));
-            what = rw e₄ (row-more loadSymbol (λ q x. x) d b h (d .loads) m′ symbols (λ q x. refl) many many′ (omega arith) (before .what));
+            targets = rw e₃ (row-more loadSlot (λ q x. q) d b h (d .loads) m′ slots (λ q x. refl) many many′ (omega arith) (before .targets));
+            arrivals = rw e₄ (row-more loadSymbol (λ q x. x) d b h (d .loads) m′ symbols (λ q x. refl) many many′ (omega arith) (before .arrivals));
           };
       whole =
           record {
@@ -180,12 +180,12 @@ held-more d b h m′ ticks draws slots symbols ticks′ draws′ slots′ symbol
           };
     }
 
-begun-grows : (d : Display) (b : Begun) (h : Beside) → length (h .begun) ≤ length (besideBegun d b h .begun)
+begun-grows : (d : Display) (b : MaybeLoad) (h : History) → length (h .begun) ≤ length (historyBegun d b h .begun)
 begun-grows d NoLoad h = omega arith
 begun-grows d (Load q x) h = rw (length-snoc (h .begun) (loaded (d .tick) (d .next) q x)) (omega arith)
 
 -- The same over a whole tick.
-pub held-on : (d : Display) (t : TickRecord) (h : Beside) (m′ : ℕ) (ticks draws slots symbols ticks′ draws′ slots′ symbols′ : List ℕ)
+pub held-on : (d : Display) (t : TickRecord) (h : History) (m′ : ℕ) (ticks draws slots symbols ticks′ draws′ slots′ symbols′ : List ℕ)
     → length (h .begun) ≡ d .loads
     → length (onward d t h .begun) ≡ m′
     → ticks′ ≡ notedLoad (t .begun) (λ q x. d .tick) (d .loads) ticks
@@ -195,21 +195,21 @@ pub held-on : (d : Display) (t : TickRecord) (h : Beside) (m′ : ℕ) (ticks dr
     → Held (h .begun) (d .loads) ticks draws slots symbols
     → Held (onward d t h .begun) m′ ticks′ draws′ slots′ symbols′
 held-on d t h m′ ticks draws slots symbols ticks′ draws′ slots′ symbols′ many many′ e₁ e₂ e₃ e₄ held =
-    let same : onward d t h .begun ≡ besideBegun d (t .begun) h .begun = made-begun d (t .happening) (besideBegun d (t .begun) h) in
-    let all : length (besideBegun d (t .begun) h .begun) ≡ m′ = ap length (sym same) ∙ many′ in
-    let grows : length (h .begun) ≤ length (besideBegun d (t .begun) h .begun) = begun-grows d (t .begun) h in
+    let same : onward d t h .begun ≡ historyBegun d (t .begun) h .begun = made-begun d (t .happening) (historyBegun d (t .begun) h) in
+    let all : length (historyBegun d (t .begun) h .begun) ≡ m′ = ap length (sym same) ∙ many′ in
+    let grows : length (h .begun) ≤ length (historyBegun d (t .begun) h .begun) = begun-grows d (t .begun) h in
     rw same
     (held-more d (t .begun) h m′ ticks draws slots symbols ticks′ draws′ slots′ symbols′ many all (omega arith) e₁ e₂ e₃ e₄ held)
 
 -- ---- The run
 
 -- What holds at the loop's head, with h beside the display: the run is on its way, and each load that was begun is counted.
-pub record Walking (job : Job) (rule : Rule) (held : List ℕ) (d : Display) (h : Beside) : Type 0 where
+pub record Walking (job : Job) (rule : Rule) (held : List ℕ) (d : Display) (h : History) : Type 0 where
   pub along : Going job rule last-tick held d h
   pub listed : length (h .begun) ≡ d .loads
 
 -- Nothing is drawn and nothing begun.
-abbrev pub before-all : Job → Beside
+abbrev pub before-all : Job → History
 before-all job = record { rest = job .draws; made = []; begun = [] }
 
 startWith : List ℕ → List ℕ → State
@@ -218,7 +218,7 @@ startWith draws slots =
 
 pub walking-first : (job : List ℕ) (rule : Rule) (held : List ℕ) (d : Display)
     → held ≡ startingOf job
-    → d ≡ record { tick = 0; waits = 0; loads = 0; next = 0; until = 0; into = 0; what = 0 }
+    → d ≡ record { tick = 0; waits = 0; loads = 0; next = 0; remaining = 0; target = 0; incoming = 0 }
     → Walking (jobOf job) rule held d (before-all (jobOf job))
 unfolding startWith
 walking-first job rule held d starts fresh =
@@ -245,7 +245,7 @@ module _ (job : Job) (rule : Rule) where
         waits = λ z f p. p;
       }) s s′ more e ticked
 
-  module _ (held : List ℕ) (d : Display) (h : Beside) (w : Walking job rule held d h) where
+  module _ (held : List ℕ) (d : Display) (h : History) (w : Walking job rule held d h) where
     -- The loop ends where no draw remains, where no tick is left, or where a tick is refused.
     pub ends-over : length (job .draws) ≤ d .next
         → inTime (runPlan job rule) ≡ cond (leb (length (job .draws)) (d .next)) (going (view held h d)) (refused 15 0)

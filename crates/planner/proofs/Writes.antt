@@ -82,8 +82,8 @@ module _ (l : List Loaded) (count : ℕ) (ticks slots symbols before : List ℕ)
       ∙ event-parts (getD l i first)
       ∙ rw (
         number-at loadTick l count i ticks first (written .many) within (written .at),
-        number-at loadSlot l count i slots first (written .many) within (written .into),
-        number-at loadSymbol l count i symbols first (written .many) within (written .what),
+        number-at loadSlot l count i slots first (written .many) within (written .targets),
+        number-at loadSymbol l count i symbols first (written .many) within (written .arrivals),
       ) in
       let longer : take (i + 1) (map eventOf l) ≡ take i (map eventOf l) ++ (event (getD ticks i 0) (getD slots i 0) (getD symbols i 0) ∷ []) =
       rw (add-one, take-suc (map eventOf l) i (eventOf first) (omega arith), here) in

@@ -18,7 +18,7 @@ ghost use Rattle.rules.specs.Plans.{last-plan, ruleOf, runPlan};
 ghost use Rattle.rules.specs.Refusals.{readJob, jobNumber, inTime, planned, answerOf, writtenBy, lent};
 ghost use Rattle.choice.specs.Asks.{rowOf};
 ghost use Rattle.planner.specs.Loads.{Whole};
-ghost use Rattle.planner.specs.Runs.{Given, Planned, Roomy, CarriedOut};
+ghost use Rattle.planner.specs.Runs.{Given, Planned, HasRoom, CarriedOut};
 
 fn refusal(number: u32) -> Answer
     ensures { λ r. ⌜ r ≡ answerOf (refused number 0) ⌝ }
@@ -49,14 +49,14 @@ fn run_from(
     shape: Shape,
     row: &[u16],
     misses: &[u16],
-    into: &[u8],
-    what: &[u16],
+    targets: &[u8],
+    arrivals: &[u16],
     ticks: &mut [u32],
     draws: &mut [u16],
     slots: &mut [u8],
     symbols: &mut [u16],
 ) -> Ran
-    requires { ⌜ (readJob (now job) ≡ Taken shape) × (rowOf plan (drawsOf (now job)) ≡ now row) × Given plan (now job) (now misses) (now into) (now what) × Whole (now ticks) (now draws) (now slots) (now symbols) ⌝ }
+    requires { ⌜ (readJob (now job) ≡ Taken shape) × (rowOf plan (drawsOf (now job)) ≡ now row) × Given plan (now job) (now misses) (now targets) (now arrivals) × Whole (now ticks) (now draws) (now slots) (now symbols) ⌝ }
     ensures { λ r. ⌜ Planned plan (now (job .entry)) r (now (ticks .exit)) (now (draws .exit)) (now (slots .exit)) (now (symbols .exit)) ⌝ }
 {
     let mut held = sheet::starting_slots(job, shape.slots);
@@ -68,8 +68,8 @@ fn run_from(
         row,
         &mut held[..k],
         misses,
-        into,
-        what,
+        targets,
+        arrivals,
         ticks,
         draws,
         slots,
@@ -91,8 +91,8 @@ fn run_conservative(
     ensures { λ r. ⌜ Planned 1 (now (job .entry)) r (now (ticks .exit)) (now (draws .exit)) (now (slots .exit)) (now (symbols .exit)) ⌝ }
 {
     let mut misses = [0; 4096];
-    let mut into = [0; 4096];
-    let mut what = [0; 4096];
+    let mut targets = [0; 4096];
+    let mut arrivals = [0; 4096];
     let opt = run_from(
         2,
         job,
@@ -103,8 +103,8 @@ fn run_conservative(
         &[],
         ticks,
         &mut misses,
-        &mut into,
-        &mut what,
+        &mut targets,
+        &mut arrivals,
     );
     let d = opt.display;
     let count = d.loads as usize;
@@ -114,8 +114,8 @@ fn run_conservative(
         shape,
         row,
         &misses[..count],
-        &into[..count],
-        &what[..count],
+        &targets[..count],
+        &arrivals[..count],
         ticks,
         draws,
         slots,
@@ -172,7 +172,7 @@ fn short_room(draws: u16, room: usize) -> bool
 
 // The run of a plan of a job that was taken, and its list in room enough. Nothing is written before the last refusal is past.
 fn carry_out(job: &[u8], shape: Shape, plan: u32, room: &mut [u8]) -> Answer
-    requires { ⌜ Roomy (now job) shape (now room) ⌝ }
+    requires { ⌜ HasRoom (now job) shape (now room) ⌝ }
     ensures { λ r. ⌜ CarriedOut (inTime (runPlan (jobOf (now (job .entry))) (ruleOf (jobOf (now (job .entry))) plan))) r (now (room .entry)) (now (room .exit)) ⌝ }
 {
     let mut ticks = [0; 4096];

@@ -1,18 +1,18 @@
 // The loads that a run has begun, a row to each of their four numbers: the tick, the next draw number, the slot and the symbol.
 use choice::Order;
-use rules::Begun;
+use rules::MaybeLoad;
 ghost use mathlib.Core.Path.{_≡_};
 ghost use mathlib.Core.List.{List};
 ghost use lib.ListN.{drop};
 ghost use Rattle.rules.specs.Display.{State, Loaded};
 ghost use Rattle.rules.specs.Plans.{earliest};
 ghost use Rattle.choice.specs.Asks.{orderAsks};
-ghost use Rattle.planner.specs.Loads.{Lists, Even, Whole, notedLoad};
+ghost use Rattle.planner.specs.Loads.{Lists, EqualRows, Whole, notedLoad};
 
 // The load of this number, as conservative works it off, from the draws that missed, the slots and the symbols.
-pub fn order_at(at: u32, misses: &[u16], into: &[u8], what: &[u16]) -> Order
-    requires { ⌜ Even (now misses) (now into) (now what) ⌝ }
-    ensures { λ r. ⌜ ((l : List Loaded) (s : State) → Lists l (now (misses .entry)) (now (into .entry)) (now (what .entry)) → orderAsks r s ≡ earliest (drop at l) s) ⌝ }
+pub fn order_at(at: u32, misses: &[u16], targets: &[u8], arrivals: &[u16]) -> Order
+    requires { ⌜ EqualRows (now misses) (now targets) (now arrivals) ⌝ }
+    ensures { λ r. ⌜ ((l : List Loaded) (s : State) → Lists l (now (misses .entry)) (now (targets .entry)) (now (arrivals .entry)) → orderAsks r s ≡ earliest (drop at l) s) ⌝ }
 {
     let place = at as usize;
     if misses.len() <= place {
@@ -20,8 +20,8 @@ pub fn order_at(at: u32, misses: &[u16], into: &[u8], what: &[u16]) -> Order
     }
     Order::Due {
         miss: misses[place],
-        slot: into[place],
-        symbol: what[place],
+        slot: targets[place],
+        symbol: arrivals[place],
     }
 }
 
@@ -35,7 +35,7 @@ pub fn note(
     at: u32,
     tick: u32,
     draw: u16,
-    begun: Begun,
+    begun: MaybeLoad,
 )
     requires { ⌜ Whole (now ticks) (now draws) (now slots) (now symbols) ⌝ }
     ensures ticks { λ r. ⌜ now (ticks .exit) ≡ notedLoad begun (λ q x. tick) at (now (ticks .entry)) ⌝ }
@@ -43,7 +43,7 @@ pub fn note(
     ensures slots { λ r. ⌜ now (slots .exit) ≡ notedLoad begun (λ q x. q) at (now (slots .entry)) ⌝ }
     ensures symbols { λ r. ⌜ now (symbols .exit) ≡ notedLoad begun (λ q x. x) at (now (symbols .entry)) ⌝ }
 {
-    let Begun::Load { slot, symbol } = begun else {
+    let MaybeLoad::Load { slot, symbol } = begun else {
         return;
     };
     let place = at as usize;

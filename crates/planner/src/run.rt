@@ -7,11 +7,11 @@ use display::Display;
 use display::Ticked;
 use display::before_end;
 use display::begin;
+use display::draw_or_wait;
 use display::land;
-use display::load_number;
-use display::pass;
+use display::load_refusal;
+use display::pass_waits;
 use display::refused_load;
-use display::settle;
 use display::smaller;
 use display::start;
 use rules::Happening;
@@ -44,23 +44,23 @@ fn plan_tick(
     let landed = land(held, d);
     let symbol = sheet::draw_symbol(job, shape.slots, landed.next);
     let asked = asked_of(plan, held, landed, row, symbol, order);
-    let number = load_number(held, landed, asked);
+    let number = load_refusal(held, landed, asked);
     if number != 0 {
         return refused_load(landed, number);
     }
     let begun = begin(held, landed, shape.time, asked);
-    settle(held, begun, asked, symbol, true)
+    draw_or_wait(held, begun, asked, symbol, true)
 }
 
 // The display behind the waits that follow a tick in which this happened: while a load is under way no plan asks for anything, so all
 // ticks up to its end are passed over at once.
-fn rest_of(d: Display, happening: Happening) -> Display
+fn after_waits(d: Display, happening: Happening) -> Display
     requires { ⌜ (d .tick ≤ last-tick) × (d .waits ≤ d .tick) ⌝ }
     ensures { λ r. ⌜ Rested (Waits d) last-tick happening d r ⌝ }
 {
     match happening {
         Happening::Draw { slot: _ } => d,
-        Happening::Wait(_) => pass(d, smaller(8388607 - d.tick, before_end(d))),
+        Happening::Wait(_) => pass_waits(d, smaller(8388607 - d.tick, before_end(d))),
     }
 }
 
@@ -79,14 +79,14 @@ pub fn run_plan(
     row: &[u16],
     held: &mut [u16],
     misses: &[u16],
-    into: &[u8],
-    what: &[u16],
+    targets: &[u8],
+    arrivals: &[u16],
     ticks: &mut [u32],
     draws: &mut [u16],
     slots: &mut [u8],
     symbols: &mut [u16],
 ) -> Ran
-    requires { ⌜ Ready plan (now job) shape (now row) (now held) (now misses) (now into) (now what) × Whole (now ticks) (now draws) (now slots) (now symbols) ⌝ }
+    requires { ⌜ Ready plan (now job) shape (now row) (now held) (now misses) (now targets) (now arrivals) × Whole (now ticks) (now draws) (now slots) (now symbols) ⌝ }
     ensures { λ r. ⌜ Shown (runPlan (jobOf (now (job .entry))) (ruleOf (jobOf (now (job .entry))) plan)) r (now (ticks .exit)) (now (draws .exit)) (now (slots .exit)) (now (symbols .exit)) ⌝ }
 {
     let mut d = start();
@@ -100,7 +100,7 @@ pub fn run_plan(
         if 8388607 <= tick {
             break;
         }
-        let order = order_at(at, misses, into, what);
+        let order = order_at(at, misses, targets, arrivals);
         let ticked = plan_tick(plan, job, shape, row, held, d, order);
         if ticked.number != 0 {
             break;
@@ -110,7 +110,7 @@ pub fn run_plan(
         let happening = on_record.happening;
         note(ticks, draws, slots, symbols, at, tick, next, begun);
         let later = ticked.display;
-        d = rest_of(later, happening);
+        d = after_waits(later, happening);
     }
     Ran {
         over: shape.draws <= d.next,

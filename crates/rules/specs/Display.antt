@@ -5,8 +5,8 @@ use mathlib.Core.Bool.{Bool, true, false, cond, not, _||_}
 use mathlib.Core.List.{List, [], _∷_, _++_}
 use lib.ListN.{getD, drop, set}
 use lib.Dec.{eqb, ltb}
-use Rattle.rules.specs.declared.Begun.{Begun}
-use Rattle.rules.specs.declared.Begun.the-variants.{Load, NoLoad}
+use Rattle.rules.specs.declared.MaybeLoad.{MaybeLoad}
+use Rattle.rules.specs.declared.MaybeLoad.the-variants.{Load, NoLoad}
 use Rattle.rules.specs.declared.Loading.{Loading}
 use Rattle.rules.specs.declared.Loading.the-variants.{Idle, Under}
 use Rattle.rules.specs.declared.Cause.{Cause}
@@ -74,7 +74,7 @@ unless (met number detail) r = refused number detail
 
 -- A rule for what begins: what it asks for in a tick, and whether, at a wait with no load under way, it will ask for nothing any more.
 pub record Rule : Type 0 where
-  pub asks : State → Begun
+  pub asks : State → MaybeLoad
   pub done : State → Bool
 
 -- Step 1. A load begun F ticks ago puts its symbol into its slot; any other load under way is a tick nearer to its end.
@@ -135,11 +135,11 @@ loadTests job q x s =
     ∷ []
 
 -- The number of the refusal that a load meets; 0 where it meets none.
-abbrev pub loadNumber : Job → ℕ → ℕ → State → ℕ
-loadNumber job q x s = numberIn (firstOf (loadTests job q x s))
+abbrev pub loadRefusal : Job → ℕ → ℕ → State → ℕ
+loadRefusal job q x s = numberIn (firstOf (loadTests job q x s))
 
 -- What begins, if anything does.
-unfoldable pub beginning : Job → Begun → State → Run
+unfoldable pub beginning : Job → MaybeLoad → State → Run
 unfolding firstOf
 beginning job NoLoad s = going s
 beginning job (Load q x) s = unless (firstOf (loadTests job q x s)) (going (begin job q x s))
@@ -205,11 +205,11 @@ then (going s) f = f s
 then (refused number detail) f = refused number detail
 
 -- A tick on record: the load begun in it, and what happened once it had begun. So a load begun in this tick counts as under way.
-abbrev pub recordOf : Begun → State → TickRecord
+abbrev pub recordOf : MaybeLoad → State → TickRecord
 recordOf begun s = record { begun = begun; happening = happeningOf s }
 
 -- What is to begin is asked once a load that ends in this tick is in its slot, so the next load may begin in the same tick.
-abbrev pub asked : Rule → State → Begun
+abbrev pub asked : Rule → State → MaybeLoad
 asked rule s = rule .asks (land s)
 
 -- One tick: the three steps in this order.

@@ -4,8 +4,8 @@ use mathlib.Core.Bool.{true, cond, not, _&&_}
 use mathlib.Core.List.{List, [], _∷_, map, reverse}
 use lib.ListN.{length, getD, take, drop}
 use lib.Dec.{eqb, ltb, leb}
-use Rattle.rules.specs.declared.Begun.{Begun}
-use Rattle.rules.specs.declared.Begun.the-variants.{Load, NoLoad}
+use Rattle.rules.specs.declared.MaybeLoad.{MaybeLoad}
+use Rattle.rules.specs.declared.MaybeLoad.the-variants.{Load, NoLoad}
 use Rattle.rules.specs.Basics.{place, stands}
 use Rattle.rules.specs.Job.{Job, free}
 use Rattle.rules.specs.LoadList.{last-tick}
@@ -38,12 +38,12 @@ missing slots [] = 0
 missing slots (x ∷ rest) = cond (stands x slots) (suc (missing slots rest)) 0
 
 -- A plan never looks at the clock: where it lets a draw wait with no load under way, it would let it wait for ever.
-abbrev pub asking : (State → Begun) → Rule
+abbrev pub asking : (State → MaybeLoad) → Rule
 asking asks = record { asks = asks; done = λ s. true }
 
 -- Plan 0, aggressive: with no load under way, load for the first missing draw, at place p, into the furthest slot, unless
 -- what would go out is drawn before p.
-abbrev pub aggressiveAt : ℕ → ℕ → State → Begun
+abbrev pub aggressiveAt : ℕ → ℕ → State → MaybeLoad
 aggressiveAt p q s =
     cond (idle (s .loading) && ltb p (length (s .rest)) && leb p (rank (ahead s) (getD (s .slots) q 0)))
     (Load q (getD (s .rest) p 0))
@@ -74,11 +74,11 @@ begunIn (refused number detail) = []
 
 -- Plan 1, conservative: the loads of opt in their order, slots and all. Each begins with no load under way, as soon as the symbol
 -- that goes out is not drawn again before the miss for which opt made that load. A free slot's content is never drawn.
-abbrev pub earliestAt : ℕ → ℕ → ℕ → State → Begun
+abbrev pub earliestAt : ℕ → ℕ → ℕ → State → MaybeLoad
 earliestAt miss q x s =
     cond (idle (s .loading) && leb miss (s .next + place (getD (s .slots) q 0) (ahead s))) (Load q x) NoLoad
 
-abbrev pub earliest : List Loaded → State → Begun
+abbrev pub earliest : List Loaded → State → MaybeLoad
 earliest [] s = NoLoad
 earliest (loaded t miss q x ∷ later) s = earliestAt miss q x s
 

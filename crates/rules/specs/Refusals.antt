@@ -5,8 +5,8 @@ use mathlib.Core.List.{List, [], _∷_, _++_, map}
 use lib.ListN.{length, getD, drop}
 use lib.Dec.{eqb, ltb, leb}
 use Rattle.rules.specs.declared.Answer.{Answer}
-use Rattle.rules.specs.declared.Begun.{Begun}
-use Rattle.rules.specs.declared.Begun.the-variants.{Load, NoLoad}
+use Rattle.rules.specs.declared.MaybeLoad.{MaybeLoad}
+use Rattle.rules.specs.declared.MaybeLoad.the-variants.{Load, NoLoad}
 use Rattle.rules.specs.declared.JobReading.{JobReading}
 use Rattle.rules.specs.declared.JobReading.the-variants.{Taken, Refused}
 use Rattle.rules.specs.declared.ListReading.{ListReading}
@@ -94,14 +94,14 @@ listNumber Unreadable = 8
 
 -- 9. The first event whose tick is over the limit or not above the tick before it, or the number of events where there is none.
 -- `least` is the lowest tick that the event may have.
-unfoldable pub unruly : ℕ → List Event → ℕ
-unruly least [] = 0
-unruly least (event t q x ∷ l) = cond (ltb last-tick t || ltb t least) 0 (suc (unruly (t + 1) l))
+unfoldable pub firstBadTick : ℕ → List Event → ℕ
+firstBadTick least [] = 0
+firstBadTick least (event t q x ∷ l) = cond (ltb last-tick t || ltb t least) 0 (suc (firstBadTick (t + 1) l))
 
 -- ---- A check of a list: refusals 7 to 14
 
 -- A list as a rule: its next event begins when its tick has come.
-unfoldable pub due : List Event → ℕ → Begun
+unfoldable pub due : List Event → ℕ → MaybeLoad
 due [] now = NoLoad
 due (event t q x ∷ later) now = cond (eqb t now) (Load q x) NoLoad
 
@@ -109,15 +109,15 @@ abbrev pub follow : List Event → Rule
 follow events = record { asks = λ s. due (drop (s .loads) events) (s .tick); done = λ s. leb (length events) (s .loads) }
 
 -- The ticks that a run along a list can take: after the last event only one load and the draws are left.
-abbrev pub patience : Job → ℕ
-patience job = last-tick + job .time + length (job .draws) + 1
+abbrev pub mostTicks : Job → ℕ
+mostTicks job = last-tick + job .time + length (job .draws) + 1
 
 -- 14. All draws are done and an event is left; the detail is the first one left.
 abbrev pub closing : List Event → State → Run
 closing events s = cond (ltb (s .loads) (length events)) (refused 14 (s .loads)) (going s)
 
 abbrev pub follows : Job → List Event → Run
-follows job events = then (run job (follow events) (patience job) (start job)) (closing events)
+follows job events = then (run job (follow events) (mostTicks job) (start job)) (closing events)
 
 -- 7. A check needs a place for each draw in both lent buffers.
 unfoldable pub shortCheck : List ℕ → ℕ → ℕ → Bool
@@ -130,7 +130,7 @@ checkTests job list ticks slots =
     jobTests job
     ++ (test 8 0 (badList list)
     ∷ test 7 0 (shortCheck job ticks slots)
-    ∷ test 9 (unruly 0 (eventsOf list)) (ltb (unruly 0 (eventsOf list)) (length (eventsOf list)))
+    ∷ test 9 (firstBadTick 0 (eventsOf list)) (ltb (firstBadTick 0 (eventsOf list)) (length (eventsOf list)))
     ∷ [])
 
 -- Where none of these holds, 10 to 14 come as time meets them.

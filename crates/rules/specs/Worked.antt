@@ -10,7 +10,7 @@ use Rattle.rules.specs.Job.{free, symbols}
 use Rattle.rules.specs.LoadList.{Event, event, eventsIn, eventsBytes, listBytes}
 use Rattle.rules.specs.Display.{run, tick, beginning, happened}
 use Rattle.rules.specs.Plans.{missing, greatest}
-use Rattle.rules.specs.Refusals.{checked, planned, due, unruly, doubled, answerOf, ticksOf, slotsOf, writtenBy}
+use Rattle.rules.specs.Refusals.{checked, planned, due, firstBadTick, doubled, answerOf, ticksOf, slotsOf, writtenBy}
 
 -- A job written out: k and n are the lengths of its two rows of symbols.
 unfoldable pub symbolBytes : List ℕ → List ℕ
@@ -124,9 +124,9 @@ job-a-bytes = refl
 
 -- Every row of document 01's tables, proved of the definitions.
 pub worked : map found rows ≡ map expected rows
-unfolding rows symbolBytes planned checked run tick beginning happened place symbols doubled missing greatest eventsIn eventsBytes due unruly
+unfolding rows symbolBytes planned checked run tick beginning happened place symbols doubled missing greatest eventsIn eventsBytes due firstBadTick
 worked = refl
 
 pub told-apart : map found telling ≡ map expected telling
-unfolding telling symbolBytes planned checked run tick beginning happened place symbols doubled missing greatest eventsIn eventsBytes due unruly
+unfolding telling symbolBytes planned checked run tick beginning happened place symbols doubled missing greatest eventsIn eventsBytes due firstBadTick
 told-apart = refl

@@ -27,7 +27,7 @@ pub enum EventReading {
 }
 
 // The load that begins in a tick, if one does.
-pub enum Begun {
+pub enum MaybeLoad {
     Load { slot: u8, symbol: u16 },
     NoLoad,
 }
@@ -53,7 +53,7 @@ pub enum Happening {
 
 // A tick on record: the load begun in it, beside what happened.
 pub struct TickRecord {
-    pub begun: Begun,
+    pub begun: MaybeLoad,
     pub happening: Happening,
 }
 

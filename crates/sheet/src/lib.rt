@@ -16,5 +16,5 @@ pub use list::put_head;
 pub use list::read_event;
 pub use list::read_list;
 pub use number::put_number32;
-pub use ticks::first_unruly;
+pub use ticks::first_bad_tick;
 pub use walk::event_of;

@@ -4,13 +4,13 @@ use rules::EventReading;
 ghost use mathlib.Core.Path.{_≡_};
 ghost use lib.ListN.{drop};
 ghost use Rattle.rules.specs.LoadList.{eventsIn, head-size};
-ghost use Rattle.rules.specs.Refusals.{unruly};
+ghost use Rattle.rules.specs.Refusals.{firstBadTick};
 ghost use Rattle.sheet.specs.Size.{Sized};
 
 // The first event that breaks the rule of ticks, or the number of events. (Refusal 9)
-pub fn first_unruly(list: &[u8], count: u16) -> u32
+pub fn first_bad_tick(list: &[u8], count: u16) -> u32
     requires { ⌜ Sized count (now list) ⌝ }
-    ensures { λ r. ⌜ r ≡ unruly 0 (eventsIn count (drop head-size (now (list .entry)))) ⌝ }
+    ensures { λ r. ⌜ r ≡ firstBadTick 0 (eventsIn count (drop head-size (now (list .entry)))) ⌝ }
 {
     let mut index: u32 = 0;
     let mut least: u32 = 0;

@@ -8,8 +8,8 @@ use Rattle.govahrin.proofs.Places.{noted-draws, as-for-C}
 use Rattle.govahrin.proofs.govahrin_check.Statement.{statement}
 use Rattle.govahrin.proofs.govahrin_check.Tie as tie
 
-few-places-requires : tie.Need-few-places-requires
-few-places-requires c κs = search needs
+tick-places-requires : tie.Need-tick-places-requires
+tick-places-requires c κs = search needs
 
 slice-aggregate-check-in : tie.Need-slice-aggregate-check-in
 slice-aggregate-check-in c = search needs
@@ -19,14 +19,14 @@ check-in-requires c κs = search needs
 
 -- The check is done in as many places as there is room for.
 module _ (p : tie.After-check-in) where
-  abbrev at-places : tie.After-few-places
+  abbrev at-places : tie.After-tick-places
   at-places = search
 
   abbrev at-start : tie.Start
   at-start = search
 
   abbrev places : ℕ
-  places = at-places .few-places .result
+  places = at-places .tick-places .result
 
   abbrev answer : Answer
   answer = p .check-in .result
@@ -52,7 +52,7 @@ put-ticks-requires : tie.Need-put-ticks-requires
 put-ticks-requires c κs =
     let p : tie.After-check-in = search in
     let few = enough p .1 in
-    let places = at-places p .few-places .ensures in
+    let places = at-places p .tick-places .ensures in
     (omega (arith, places), omega (arith, places))
 
 same-length : tie.Need-same-length
@@ -71,13 +71,13 @@ returns c =
     let a = at-start p .args in
     let k = p .check-in in
     as-for-C (a .job .now) (a .list .now) _ (k .last .1 .1 .0) (a .slots .now) (k .last .1 .1 .1 .1 .0) (places p) (k .result) (a .ticks .now)
-    (t .put-ticks .last .0) (at-places p .few-places .ensures) (k .ensures) (t .put-ticks .ensures)
+    (t .put-ticks .last .0) (at-places p .tick-places .ensures) (k .ensures) (t .put-ticks .ensures)
 
 pub govahrin-check-spec : {M : Type 1} → statement M
 govahrin-check-spec =
     tie.close
     (tie.spec
-    few-places-requires
+    tick-places-requires
     slice-aggregate-check-in
     check-in-requires
     sub-draws

@@ -48,7 +48,7 @@ check-spec =
     (λ c κs. search walk depth 20 fits 4000)
     (λ c. search needs)
     (λ c κs. search needs)
-    (λ c. refuses _ _ _ _ _ 9 (let p : tie.After-first-unruly = search in p .first-unruly .result) (search) (search walk depth 20 fits 4000))
+    (λ c. refuses _ _ _ _ _ 9 (let p : tie.After-first-bad-tick = search in p .first-bad-tick .result) (search) (search walk depth 20 fits 4000))
     (λ c κs. search walk depth 20 fits 4000)
     (λ c. search needs)
     (λ c. search needs)

@@ -27,7 +27,7 @@ returns c =
     let s : tie.Start = search in
     let d = s .args .d in
     let all = size s in
-    let end : after .before-end .result ≡ d .until - 1 = after .before-end .ensures in
+    let end : after .before-end .result ≡ d .remaining - 1 = after .before-end .ensures in
     record {
       none-due = λ j less. due-none (events s) (d .loads) (d .tick + j) (omega arith);
       before-end = λ ends. omega arith;
@@ -60,9 +60,9 @@ returns-3 c =
     let ahead : tie.After-ticks-ahead = search in
     let end : tie.After-before-end2 = search in
     let d = s .args .d in
-    let ends : end .before-end2 .result ≡ d .until - 1 = end .before-end2 .ensures in
+    let ends : end .before-end2 .result ≡ d .remaining - 1 = end .before-end2 .ensures in
     let fewer : c .smaller .result ≡ min (ahead .ticks-ahead .result) (end .before-end2 .result) = c .smaller .ensures in
-    let under-way : d .until ≡ 0 → ⊥ = search in
+    let under-way : d .remaining ≡ 0 → ⊥ = search in
     record {
       none-due = λ j less. ahead .ticks-ahead .ensures j (omega arith);
       before-end = λ ends. omega arith;

@@ -7,10 +7,10 @@ use lib.ListN.{length, drop}
 use borrow.Author.Needs.{needs}
 use Rattle.rules.specs.Job.{shapeOf, drawsOf, jobOf}
 use Rattle.rules.specs.LoadList.{Event, eventsIn, head-size}
-use Rattle.rules.specs.Refusals.{patience}
+use Rattle.rules.specs.Refusals.{mostTicks}
 use Rattle.rules.specs.declared.Shape.{Shape}
 use Rattle.laws.proofs.Events.{length-eventsIn}
-use Rattle.display.specs.View.{onward, Beside}
+use Rattle.display.specs.View.{onward, History}
 use Rattle.display.specs.declared.state.Display.{Display}
 use Rattle.checker.specs.Follow.{Fit}
 use Rattle.checker.proofs.Ends.{draws-read, starting-size, limit-read, shown-out, shown-up, shown-refused, walking-room, first, walking-first}
@@ -23,7 +23,7 @@ Inv-loop job list shape count held₀ ticks₀ slots₀ limit d₀ held ticks sl
     (length held ≡ length held₀)
     × (length ticks ≡ length ticks₀)
     × (length slots ≡ length slots₀)
-    × (h : Beside)
+    × (h : History)
     × Walking (jobOf job) (eventsIn count (drop head-size list)) held d ticks slots h
 
 abbrev μ-loop : tie.MeasureT-loop
@@ -80,7 +80,7 @@ module _ (p : tie.At-loop Inv-loop μ-loop) where
   many : length (drawsOf job) ≡ shape .draws
   many = draws-read job shape (fit .shaped)
 
-  whole : limit ≡ patience (jobOf job)
+  whole : limit ≡ mostTicks (jobOf job)
   whole = limit-read job shape (fit .shaped)
 
   walking : Walking (jobOf job) events (p .loop .held) (p .loop .d) (p .loop .ticks) (p .loop .slots) (p .loop .inv .3)
@@ -160,7 +160,7 @@ module _ (p : tie.After-follow-tick Inv-loop μ-loop) where
   soon : at-loop .loop .d .tick < limit at-loop
   soon = search
 
-  early : at-loop .loop .d .tick < patience (jobOf (job at-loop))
+  early : at-loop .loop .d .tick < mostTicks (jobOf (job at-loop))
   early = rw (whole at-loop) at soon
 
   room : (at-loop .loop .d .next < length (at-loop .loop .ticks)) × (at-loop .loop .d .next < length (at-loop .loop .slots))
@@ -212,8 +212,8 @@ module _ (p : tie.After-note Inv-loop μ-loop) where
   waited : at-tick .follow-tick .result .display .waits ≤ at-loop at-tick .loop .d .waits + 1
   waited = at-tick .follow-tick .ensures .counts unrefused .waits
 
-rest-of-requires : tie.Need-rest-of-requires Inv-loop μ-loop
-rest-of-requires c κs =
+after-waits-requires : tie.Need-after-waits-requires Inv-loop μ-loop
+after-waits-requires c κs =
     let n : tie.After-note Inv-loop μ-loop = search in
     let p = at-loop (at-tick n) in
     let in-time = soon (at-tick n) in
@@ -224,18 +224,18 @@ rest-of-requires c κs =
 
 loop-less : tie.Need-loop-less Inv-loop μ-loop
 loop-less c =
-    let after : tie.After-rest-of Inv-loop μ-loop = search in
+    let after : tie.After-after-waits Inv-loop μ-loop = search in
     let n : tie.After-note Inv-loop μ-loop = search in
     let p = at-loop (at-tick n) in
     let in-time = soon (at-tick n) in
     let one-more = ticked n in
-    let further : after .rest-of .result .tick ≡ at-tick n .follow-tick .result .display .tick + after .rest-of .ensures .many =
-    ap (λ (e : Display). e .tick) (after .rest-of .ensures .passes) in
+    let further : after .after-waits .result .tick ≡ at-tick n .follow-tick .result .display .tick + after .after-waits .ensures .many =
+    ap (λ (e : Display). e .tick) (after .after-waits .ensures .passes) in
     omega arith
 
 loop-again : tie.Need-loop-again Inv-loop μ-loop
 loop-again c =
-    let after : tie.After-rest-of Inv-loop μ-loop = search in
+    let after : tie.After-after-waits Inv-loop μ-loop = search in
     let n : tie.After-note Inv-loop μ-loop = search in
     let t = at-tick n in
     let p = at-loop t in
@@ -247,7 +247,7 @@ loop-again c =
       ap length (noted .1) ∙ noted-length (r .on_record .happening) (λ q. q) (l .d .next) (l .slots) ∙ l .inv .2,
       onward (l .d) (r .on_record) (l .inv .3),
       walked-on (jobOf (job p)) (events p) _ _ _ _ _ (walking p) (within t) (early t) _ r (t .follow-tick .ensures) (unrefused n)
-          (after .rest-of .result) (rw (whole p) at (after .rest-of .ensures)) (n .note .last .0) (n .note .last .1 .0) (room t .0) (room t .1)
+          (after .after-waits .result) (rw (whole p) at (after .after-waits .ensures)) (n .note .last .0) (n .note .last .1 .0) (room t .0) (room t .1)
           (noted .0) (noted .1),
     )
 
@@ -280,6 +280,6 @@ run-list-spec =
     same-length-9
     returns-3
     note-requires
-    rest-of-requires
+    after-waits-requires
     loop-less
     loop-again)

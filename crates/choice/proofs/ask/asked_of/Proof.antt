@@ -14,10 +14,10 @@ returns : tie.Need-returns
 returns c =
     let s : tie.Start = search in
     let a = s .args in
-    let busy : a .d .until ≡ 0 → ⊥ = search in
+    let busy : a .d .remaining ≡ 0 → ⊥ = search in
     λ h job turned remain awaits.
     asks-busy (a .plan) job (a .order) (view (a .slots .now) h (a .d))
-    (ap idle (under-way (a .d .until) (a .d .into) (a .d .what) busy))
+    (ap idle (under-way (a .d .remaining) (a .d .target) (a .d .incoming) busy))
 
 look-from-requires : tie.Need-look-from-requires
 look-from-requires c κs = search needs
@@ -44,9 +44,9 @@ returns-2 c =
     let p : tie.After-look-from = search in
     let a = s .args in
     let from = p .look-from in
-    let free : a .d .until ≡ 0 = search in
+    let free : a .d .remaining ≡ 0 = search in
     λ h job turned remain awaits.
-    after .choose .ensures (view (a .slots .now) h (a .d)) job (ap (λ (n : ℕ). loadingOf n (a .d .into) (a .d .what)) free, refl) awaits refl
+    after .choose .ensures (view (a .slots .now) h (a .d)) job (ap (λ (n : ℕ). loadingOf n (a .d .target) (a .d .incoming)) free, refl) awaits refl
     (looks-along (a .plan) job (view (a .slots .now) h (a .d)) (a .row .now) turned remain (s .pre .1)
     ∙ ap (λ (n : ℕ). drop n (a .row .now)) (sym (from .ensures .0))
     ∙ sym (part-to-end (from .result) (a .row .now)))

@@ -2,7 +2,7 @@
 use mathlib.Core.Path.{ap, _∙_}
 use borrow.Author.Needs.{needs}
 use Rattle.rules.specs.Plans.{furthest}
-use Rattle.rules.specs.declared.Begun.the-variants.{NoLoad}
+use Rattle.rules.specs.declared.MaybeLoad.the-variants.{NoLoad}
 use Rattle.choice.proofs.Asked.{by-aggressive, by-order, by-demand}
 use Rattle.choice.proofs.ask.choose.Statement.{statement}
 use Rattle.choice.proofs.ask.choose.Tie as tie

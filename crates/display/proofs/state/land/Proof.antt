@@ -28,7 +28,7 @@ module _ (p : tie.After-put) where
   abbrev at-start : tie.Start
   at-start = search
 
-  ended : at-start .args .d .until ≡ 1
+  ended : at-start .args .d .remaining ≡ 1
   ended = search
 
 returns-2 : tie.Need-returns-2
@@ -38,7 +38,7 @@ returns-2 c =
     let a = at-start p .args in
     λ h.
     ap (λ (slots : List ℕ). view slots h (after .nearer .result)) (p .put .ensures)
-    ∙ ap (view (set (a .slots .now) (a .d .into) (a .d .what)) h) (after .nearer .ensures)
+    ∙ ap (view (set (a .slots .now) (a .d .target) (a .d .incoming)) h) (after .nearer .ensures)
     ∙ ended-lands (a .slots .now) h (a .d) (ended p)
 
 nearer-requires-2 : tie.Need-nearer-requires-2

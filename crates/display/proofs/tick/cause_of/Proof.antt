@@ -13,17 +13,17 @@ returns-2 : tie.Need-returns-2
 returns-2 c =
     let s : tie.Start = search in
     let d = s .args .d in
-    let busy : d .until ≡ 0 → ⊥ = search in
-    let same : s .args .symbol ≡ d .what = search in
-    simp (under-way (d .until) (d .into) (d .what) busy, eq-eqb _ _ same)
+    let busy : d .remaining ≡ 0 → ⊥ = search in
+    let same : s .args .symbol ≡ d .incoming = search in
+    simp (under-way (d .remaining) (d .target) (d .incoming) busy, eq-eqb _ _ same)
 
 returns-3 : tie.Need-returns-3
 returns-3 c =
     let s : tie.Start = search in
     let d = s .args .d in
-    let busy : d .until ≡ 0 → ⊥ = search in
-    let other : s .args .symbol ≡ d .what → ⊥ = search in
-    simp (under-way (d .until) (d .into) (d .what) busy, ne-eqb _ _ other)
+    let busy : d .remaining ≡ 0 → ⊥ = search in
+    let other : s .args .symbol ≡ d .incoming → ⊥ = search in
+    simp (under-way (d .remaining) (d .target) (d .incoming) busy, ne-eqb _ _ other)
 
 pub cause-of-spec : {M : Type 1} → statement M
 cause-of-spec = tie.close (tie.spec returns returns-2 returns-3)

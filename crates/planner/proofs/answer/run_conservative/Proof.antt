@@ -51,11 +51,11 @@ module _ (p : tie.After-run-from) where
   abbrev misses : List ℕ
   misses = p .run-from .last .1 .1 .1 .1 .1 .1 .1 .1 .0
 
-  abbrev into : List ℕ
-  into = p .run-from .last .1 .1 .1 .1 .1 .1 .1 .1 .1 .0
+  abbrev targets : List ℕ
+  targets = p .run-from .last .1 .1 .1 .1 .1 .1 .1 .1 .1 .0
 
-  abbrev what : List ℕ
-  what = p .run-from .last .1 .1 .1 .1 .1 .1 .1 .1 .1 .1 .0
+  abbrev arrivals : List ℕ
+  arrivals = p .run-from .last .1 .1 .1 .1 .1 .1 .1 .1 .1 .1 .0
 
   few : loads ≤ 4096
   few =
@@ -68,17 +68,17 @@ module _ (p : tie.After-run-from) where
       let most = few in
       length-take-le loads misses (omega arith)
 
-  placed : length (take loads into) ≡ loads
+  placed : length (take loads targets) ≡ loads
   placed =
-      let room : length into ≡ 4096 = p .run-from .kept .1 .1 .1 .1 .1 .1 .1 .1 .1 .0 ∙ whole in
+      let room : length targets ≡ 4096 = p .run-from .kept .1 .1 .1 .1 .1 .1 .1 .1 .1 .0 ∙ whole in
       let most = few in
-      length-take-le loads into (omega arith)
+      length-take-le loads targets (omega arith)
 
-  loaded : length (take loads what) ≡ loads
+  loaded : length (take loads arrivals) ≡ loads
   loaded =
-      let room : length what ≡ 4096 = p .run-from .kept .1 .1 .1 .1 .1 .1 .1 .1 .1 .1 .0 ∙ whole in
+      let room : length arrivals ≡ 4096 = p .run-from .kept .1 .1 .1 .1 .1 .1 .1 .1 .1 .1 .0 ∙ whole in
       let most = few in
-      length-take-le loads what (omega arith)
+      length-take-le loads arrivals (omega arith)
 
 cast-count : tie.Need-cast-count
 cast-count c = search needs
@@ -91,28 +91,28 @@ slice-aggregate-run-from-7 c =
     let p : tie.After-run-from = search in
     sym (missed p)
 
-array-share-prefix-into : tie.Need-array-share-prefix-into
-array-share-prefix-into c = search needs
+array-share-prefix-targets : tie.Need-array-share-prefix-targets
+array-share-prefix-targets c = search needs
 
 slice-aggregate-run-from-8 : tie.Need-slice-aggregate-run-from-8
 slice-aggregate-run-from-8 c =
     let p : tie.After-run-from = search in
     sym (placed p)
 
-array-share-prefix-what : tie.Need-array-share-prefix-what
-array-share-prefix-what c = search needs
+array-share-prefix-arrivals : tie.Need-array-share-prefix-arrivals
+array-share-prefix-arrivals c = search needs
 
 slice-aggregate-run-from-9 : tie.Need-slice-aggregate-run-from-9
 slice-aggregate-run-from-9 c =
     let p : tie.After-run-from = search in
     sym (loaded p)
 
-abbrev at-opt : tie.After-what3 → tie.After-run-from
+abbrev at-opt : tie.After-arrivals3 → tie.After-run-from
 at-opt p = search
 
 run-from-requires-2 : tie.Need-run-from-requires-2
 run-from-requires-2 c κs =
-    let rows : tie.After-what3 = search in
+    let rows : tie.After-arrivals3 = search in
     let p = at-opt rows in
     let a = at-start p .args in
     let pre = at-start p .pre in
@@ -160,9 +160,9 @@ run-conservative-spec =
     cast-count
     array-share-prefix-misses
     slice-aggregate-run-from-7
-    array-share-prefix-into
+    array-share-prefix-targets
     slice-aggregate-run-from-8
-    array-share-prefix-what
+    array-share-prefix-arrivals
     slice-aggregate-run-from-9
     run-from-requires-2
     same-length

@@ -3,7 +3,7 @@ use native.Mathlib.Omega.{arith}
 use mathlib.Core.Path.{_≡_}
 use lib.ListN.{length}
 use borrow.Author.Needs.{needs}
-use Rattle.rules.specs.declared.Begun.the-variants.{NoLoad}
+use Rattle.rules.specs.declared.MaybeLoad.the-variants.{NoLoad}
 use Rattle.planner.proofs.Orders.{noted-none, noted-one, noted-past}
 use Rattle.planner.proofs.loads.note.Statement.{statement}
 use Rattle.planner.proofs.loads.note.Tie as tie

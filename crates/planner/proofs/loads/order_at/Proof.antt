@@ -8,7 +8,7 @@ returns : tie.Need-returns
 returns c =
     let begun : tie.Start = search in
     let a = begun .args in
-    λ l s lists. order-none l s (a .at) (a .misses .now) (a .into .now) (a .what .now) lists search
+    λ l s lists. order-none l s (a .at) (a .misses .now) (a .targets .now) (a .arrivals .now) lists search
 
 mul-t6 : tie.Need-mul-t6
 mul-t6 c = search needs
@@ -29,7 +29,7 @@ returns-2 : tie.Need-returns-2
 returns-2 c =
     let begun : tie.Start = search in
     let a = begun .args in
-    λ l s lists. order-there l s (a .at) (a .misses .now) (a .into .now) (a .what .now) lists search
+    λ l s lists. order-there l s (a .at) (a .misses .now) (a .targets .now) (a .arrivals .now) lists search
 
 pub order-at-spec : {M : Type 1} → statement M
 order-at-spec =

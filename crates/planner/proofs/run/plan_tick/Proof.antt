@@ -9,11 +9,11 @@ use borrow.Author.Needs.{needs}
 use Rattle.rules.specs.Display.{Rule, land}
 use Rattle.rules.specs.Job.{shapeOf, drawsOf, jobOf}
 use Rattle.rules.specs.Plans.{asking}
-use Rattle.rules.specs.declared.Begun.{Begun}
+use Rattle.rules.specs.declared.MaybeLoad.{MaybeLoad}
 use Rattle.rules.specs.declared.Shape.{Shape}
 use Rattle.laws.proofs.Symbols.{length-symbols}
-use Rattle.display.specs.Tick.{Room, numberOf}
-use Rattle.display.specs.View.{Beside, view, besideBegun, begunBy}
+use Rattle.display.specs.Tick.{Room, askedRefusal}
+use Rattle.display.specs.View.{History, view, historyBegun, begunBy}
 use Rattle.display.specs.declared.state.Display.{Display}
 use Rattle.display.specs.declared.tick.Ticked.{Ticked}
 use Rattle.display.proofs.Landed.{landed-awaits, landed-loads, landed-next, landed-room}
@@ -69,7 +69,7 @@ module _ (p : tie.After-land) where
   within : d .next < shape .draws
   within = at-start .pre .5
 
-  lands : (h : Beside) → view held₁ h l ≡ land (view held h d)
+  lands : (h : History) → view held₁ h l ≡ land (view held h d)
   lands = p .land .ensures
 
   same-size : length held₁ ≡ shape .slots
@@ -93,8 +93,8 @@ asked-of-requires c κs =
     let next-draw = within p in
     (record { some-slot = omega arith; few-slots = omega arith; few-draws = omega arith }, omega arith)
 
-load-number-requires : tie.Need-load-number-requires
-load-number-requires c κs = search needs
+load-refusal-requires : tie.Need-load-refusal-requires
+load-refusal-requires c κs = search needs
 
 refused-load-requires : tie.Need-refused-load-requires
 refused-load-requires c κs = search needs
@@ -103,7 +103,7 @@ same-length : tie.Need-same-length
 same-length c = search needs
 
 -- The load asked for has its number: what the refused tick and the one that goes on share.
-module _ (p : tie.After-load-number) where
+module _ (p : tie.After-load-refusal) where
   abbrev at-land : tie.After-land
   at-land = search
 
@@ -116,32 +116,32 @@ module _ (p : tie.After-load-number) where
   abbrev symbol : ℕ
   symbol = at-draw-symbol .draw-symbol .result
 
-  abbrev asked : Begun
+  abbrev asked : MaybeLoad
   asked = at-asked-of .asked-of .result
 
-  asks : (h : Beside) → h .rest ≡ drop (d at-land .next) (drawsOf (job at-land)) → asked ≡ rule at-land .asks (view (held₁ at-land) h (l at-land))
+  asks : (h : History) → h .rest ≡ drop (d at-land .next) (drawsOf (job at-land)) → asked ≡ rule at-land .asks (view (held₁ at-land) h (l at-land))
   asks =
       let a = at-start at-land .args in
       asked-landed (a .plan) (job at-land) (a .shape) (a .order) (a .row .now) (held at-land) (held₁ at-land) (d at-land) (l at-land)
       (lands at-land) symbol asked (limits at-land .shaped) (within at-land) (at-draw-symbol .draw-symbol .ensures) (turned at-land)
       (at-asked-of .asked-of .ensures)
 
-  numbered : (h : Beside) → p .load-number .result ≡ numberOf (jobOf (job at-land)) asked (view (held₁ at-land) h (l at-land))
-  numbered h = p .load-number .ensures h (jobOf (job at-land)) (size at-land)
+  numbered : (h : History) → p .load-refusal .result ≡ askedRefusal (jobOf (job at-land)) asked (view (held₁ at-land) h (l at-land))
+  numbered h = p .load-refusal .ensures h (jobOf (job at-land)) (size at-land)
 
 returns : tie.Need-returns
 returns c =
     let after : tie.After-refused-load = search in
-    let n : tie.After-load-number = search in
+    let n : tie.After-load-refusal = search in
     let p = at-land n in
-    let some : n .load-number .result ≡ 0 → ⊥ = search in
-    ticks-refused (jobOf (job p)) (rule p) (held p) (held₁ p) (d p) (l p) (lands p) (asked n) (asks n) (n .load-number .result) (numbered n) some
+    let some : n .load-refusal .result ≡ 0 → ⊥ = search in
+    ticks-refused (jobOf (job p)) (rule p) (held p) (held₁ p) (d p) (l p) (lands p) (asked n) (asks n) (n .load-refusal .result) (numbered n) some
     (after .refused-load .result) (ap (λ (t : Ticked). t .number) (after .refused-load .ensures))
     (ap (λ (t : Ticked). t .detail) (after .refused-load .ensures))
 
 begin-requires : tie.Need-begin-requires
 begin-requires c κs =
-    let n : tie.After-load-number = search in
+    let n : tie.After-load-refusal = search in
     let p = at-land n in
     let same : l p .loads ≡ d p .loads = landed-loads (held p) (held₁ p) (d p) (l p) (lands p) in
     let few = at-start p .pre .4 in
@@ -149,27 +149,27 @@ begin-requires c κs =
 
 -- The load is begun.
 module _ (p : tie.After-begin) where
-  abbrev at-number : tie.After-load-number
+  abbrev at-number : tie.After-load-refusal
   at-number = search
 
-  none : at-number .load-number .result ≡ 0
+  none : at-number .load-refusal .result ≡ 0
   none = search
 
-  begins : (h : Beside)
-      → view (p .begin .last .0) (besideBegun (l (at-land at-number)) (asked at-number) h) (p .begin .result)
+  begins : (h : History)
+      → view (p .begin .last .0) (historyBegun (l (at-land at-number)) (asked at-number) h) (p .begin .result)
       ≡ begunBy (jobOf (job (at-land at-number))) (asked at-number) (view (held₁ (at-land at-number)) h (l (at-land at-number)))
   begins h =
       p .begin .ensures h (jobOf (job (at-land at-number))) (sym (ap (λ (s : Shape). s .time) (limits (at-land at-number) .shaped)))
 
-settle-requires : tie.Need-settle-requires
-settle-requires c κs =
+draw-or-wait-requires : tie.Need-draw-or-wait-requires
+draw-or-wait-requires c κs =
     let b : tie.After-begin = search in
     let n = at-number b in
     let p = at-land n in
     let same : length (b .begin .last .0) ≡ shape p .slots = b .begin .kept .0 ∙ same-size p in
     let few = limits p .few-slots in (
       omega arith,
-      room-begun (jobOf (job p)) (rule p) (held p) (held₁ p) (d p) (l p) (lands p) (asked n) (asks n) (n .load-number .result) (numbered n)
+      room-begun (jobOf (job p)) (rule p) (held p) (held₁ p) (d p) (l p) (lands p) (asked n) (asks n) (n .load-refusal .result) (numbered n)
           (none b) (b .begin .last .0) (b .begin .result) (begins b)
           (landed-room (held p) (held₁ p) (d p) (l p) (lands p) (room p)),
     )
@@ -181,15 +181,15 @@ same-length-2 c =
 
 returns-2 : tie.Need-returns-2
 returns-2 c =
-    let after : tie.After-settle = search in
+    let after : tie.After-draw-or-wait = search in
     let b : tie.After-begin = search in
     let n = at-number b in
     let p = at-land n in
-    ticks-went (jobOf (job p)) (rule p) (held p) (held₁ p) (d p) (l p) (lands p) (asked n) (asks n) (n .load-number .result) (numbered n)
+    ticks-went (jobOf (job p)) (rule p) (held p) (held₁ p) (d p) (l p) (lands p) (asked n) (asks n) (n .load-refusal .result) (numbered n)
     (none b) (b .begin .last .0) (b .begin .result) (begins b) (symbol n)
     (landed-awaits (held p) (held₁ p) (d p) (l p) (lands p) (job p) (shape p) (symbol n) (limits p .shaped) (within p)
     (at-draw-symbol n .draw-symbol .ensures))
-    true (λ h. refl) (after .settle .result) (after .settle .ensures)
+    true (λ h. refl) (after .draw-or-wait .result) (after .draw-or-wait .ensures)
 
 pub plan-tick-spec : {M : Type 1} → statement M
 plan-tick-spec =
@@ -198,11 +198,11 @@ plan-tick-spec =
     land-requires
     draw-symbol-requires
     asked-of-requires
-    load-number-requires
+    load-refusal-requires
     refused-load-requires
     same-length
     returns
     begin-requires
-    settle-requires
+    draw-or-wait-requires
     same-length-2
     returns-2)

@@ -16,7 +16,7 @@ use Rattle.rules.specs.Refusals.{inTime}
 use Rattle.rules.specs.declared.Shape.{Shape}
 use Rattle.laws.proofs.Symbols.{length-symbols}
 use Rattle.display.specs.Tick.{Ticks}
-use Rattle.display.specs.View.{view, onward, Beside}
+use Rattle.display.specs.View.{view, onward, History}
 use Rattle.display.specs.declared.state.Display.{Display}
 use Rattle.display.specs.declared.tick.Ticked.{Ticked}
 use Rattle.planner.specs.Loads.{Whole}
@@ -27,14 +27,14 @@ use Rattle.planner.proofs.run.run_plan.Statement.{statement}
 use Rattle.planner.proofs.run.run_plan.Tie as tie
 
 abbrev Inv-loop : tie.InvT-loop
-Inv-loop plan job shape row held₀ misses into what ticks₀ draws₀ slots₀ symbols₀ d₀ held ticks draws slots symbols d =
+Inv-loop plan job shape row held₀ misses targets arrivals ticks₀ draws₀ slots₀ symbols₀ d₀ held ticks draws slots symbols d =
     (length held ≡ length held₀)
-    × (h : Beside)
+    × (h : History)
     × Walking (jobOf job) (ruleOf (jobOf job) plan) held d h
     × Held (h .begun) (d .loads) ticks draws slots symbols
 
 abbrev μ-loop : tie.MeasureT-loop
-μ-loop plan job shape row held₀ misses into what ticks₀ draws₀ slots₀ symbols₀ d₀ held ticks draws slots symbols d =
+μ-loop plan job shape row held₀ misses targets arrivals ticks₀ draws₀ slots₀ symbols₀ d₀ held ticks draws slots symbols d =
     last-tick - d .tick
 
 start-requires : tie.Need-start-requires Inv-loop μ-loop
@@ -71,13 +71,13 @@ module _ (p : tie.At-loop Inv-loop μ-loop) where
   abbrev d : Display
   d = p .loop .d
 
-  abbrev beside : Beside
+  abbrev beside : History
   beside = p .loop .inv .1
 
   limits : Limits (at-start .args .job .now) shape
   limits = at-start .pre .0 .limits
 
-  given : Given plan (at-start .args .job .now) (at-start .args .misses .now) (at-start .args .into .now) (at-start .args .what .now)
+  given : Given plan (at-start .args .job .now) (at-start .args .misses .now) (at-start .args .targets .now) (at-start .args .arrivals .now)
   given = at-start .pre .0 .given
 
   many : length (job .draws) ≡ shape .draws
@@ -169,8 +169,8 @@ module _ (p : tie.After-note Inv-loop μ-loop) where
 abbrev at-note : tie.After-later Inv-loop μ-loop → tie.After-note Inv-loop μ-loop
 at-note p = search
 
-rest-of-requires : tie.Need-rest-of-requires Inv-loop μ-loop
-rest-of-requires c κs =
+after-waits-requires : tie.Need-after-waits-requires Inv-loop μ-loop
+after-waits-requires c κs =
     let n = at-note c in
     let p = at-loop (at-tick n) in
     let soon = early (at-tick n) in
@@ -181,18 +181,18 @@ rest-of-requires c κs =
 
 loop-less : tie.Need-loop-less Inv-loop μ-loop
 loop-less c =
-    let after : tie.After-rest-of Inv-loop μ-loop = search in
+    let after : tie.After-after-waits Inv-loop μ-loop = search in
     let w : tie.After-later Inv-loop μ-loop = search in
     let n = at-note w in
     let soon = early (at-tick n) in
     let more = one-more n in
-    let further : after .rest-of .result .tick ≡ ticked (at-tick n) .display .tick + after .rest-of .ensures .many =
-    ap (λ (e : Display). e .tick) (after .rest-of .ensures .passes) in
+    let further : after .after-waits .result .tick ≡ ticked (at-tick n) .display .tick + after .after-waits .ensures .many =
+    ap (λ (e : Display). e .tick) (after .after-waits .ensures .passes) in
     omega arith
 
 loop-again : tie.Need-loop-again Inv-loop μ-loop
 loop-again c =
-    let after : tie.After-rest-of Inv-loop μ-loop = search in
+    let after : tie.After-after-waits Inv-loop μ-loop = search in
     let w : tie.After-later Inv-loop μ-loop = search in
     let n = at-note w in
     let t = at-tick n in
@@ -200,14 +200,14 @@ loop-again c =
     let l = p .loop in
     let h = beside p in
     let r = ticked t in
-    let on : Walking (job p) (rule p) (held′ t) (after .rest-of .result) (onward (l .d) (r .on_record) h) =
-    walking-on (job p) (rule p) (l .held) (l .d) h (walking p) (within t) (early t) (held′ t) r (ticks t) (went n) (after .rest-of .result)
-    (after .rest-of .ensures) (calm (plan p) (job p) (held′ t) (onward (l .d) (r .on_record) h) (r .display)) in
+    let on : Walking (job p) (rule p) (held′ t) (after .after-waits .result) (onward (l .d) (r .on_record) h) =
+    walking-on (job p) (rule p) (l .held) (l .d) h (walking p) (within t) (early t) (held′ t) r (ticks t) (went n) (after .after-waits .result)
+    (after .after-waits .ensures) (calm (plan p) (job p) (held′ t) (onward (l .d) (r .on_record) h) (r .display)) in
     let noted = n .note .ensures in (
       t .plan-tick .kept .1 .1 .1 .1 .0 ∙ l .inv .0,
       onward (l .d) (r .on_record) h,
       on,
-      held-on (l .d) (r .on_record) h (after .rest-of .result .loads) (l .ticks) (l .draws) (l .slots) (l .symbols) _ _ _ _ (walking p .listed)
+      held-on (l .d) (r .on_record) h (after .after-waits .result .loads) (l .ticks) (l .draws) (l .slots) (l .symbols) _ _ _ _ (walking p .listed)
           (on .listed) (noted .0) (noted .1 .0) (noted .1 .1 .0) (noted .1 .1 .1) (kept p),
     )
 
@@ -277,7 +277,7 @@ run-plan-spec =
     order-at-requires
     plan-tick-requires
     note-requires
-    rest-of-requires
+    after-waits-requires
     loop-less
     loop-again
     same-length

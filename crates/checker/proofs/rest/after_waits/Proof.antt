@@ -1,4 +1,4 @@
--- `rest_of` meets its contract: behind a draw no tick is passed over, behind a wait as many as are still.
+-- `after_waits` meets its contract: behind a draw no tick is passed over, behind a wait as many as are still.
 use Prim.Native.Nat.{_-_, _≤_, min}
 use native.Mathlib.Omega.{arith}
 use mathlib.Core.Path.{_≡_, ap}
@@ -6,8 +6,8 @@ use borrow.Author.Needs.{needs}
 use Rattle.display.proofs.Stretches.{rested-none}
 use Rattle.display.specs.Still.{waiting}
 use Rattle.checker.proofs.Walks.{waits-none, waits-fewer}
-use Rattle.checker.proofs.rest.rest_of.Statement.{statement}
-use Rattle.checker.proofs.rest.rest_of.Tie as tie
+use Rattle.checker.proofs.rest.after_waits.Statement.{statement}
+use Rattle.checker.proofs.rest.after_waits.Tie as tie
 
 enum-told : tie.Need-enum-told
 enum-told c = search needs
@@ -24,8 +24,8 @@ still-ticks-requires c κs = search needs
 smaller-requires : tie.Need-smaller-requires
 smaller-requires c κs = search needs
 
-pass-requires : tie.Need-pass-requires
-pass-requires c κs = search needs
+pass-waits-requires : tie.Need-pass-waits-requires
+pass-waits-requires c κs = search needs
 
 returns : tie.Need-returns
 returns c =
@@ -35,7 +35,7 @@ returns c =
 
 returns-2 : tie.Need-returns-2
 returns-2 c =
-    let after : tie.After-pass = search in
+    let after : tie.After-pass-waits = search in
     let s : tie.Start = search in
     let still : tie.After-still-ticks = search in
     let fewer : tie.After-smaller = search in
@@ -47,14 +47,14 @@ returns-2 c =
     let waits : tie.After-enum-told2 = search in
     record {
       many = n;
-      passes = after .pass .ensures;
+      passes = after .pass-waits .ensures;
       in-time = omega arith;
       behind = λ some. ap waiting (waits .enum-told2 .given .1);
       still = waits-fewer _ (a .d) m n (omega arith) (still .still-ticks .ensures);
     }
 
-pub rest-of-spec : {M : Type 1} → statement M
-rest-of-spec =
+pub after-waits-spec : {M : Type 1} → statement M
+after-waits-spec =
     tie.close
     (tie.spec
     enum-told
@@ -62,6 +62,6 @@ rest-of-spec =
     sub-smaller
     still-ticks-requires
     smaller-requires
-    pass-requires
+    pass-waits-requires
     returns
     returns-2)

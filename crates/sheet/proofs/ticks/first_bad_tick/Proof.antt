@@ -1,4 +1,4 @@
--- `first_unruly` meets its contract: at each turn the events passed and the first unruly one of those left make up the answer.
+-- `first_bad_tick` meets its contract: at each turn the events passed and the first unruly one of those left make up the answer.
 use Prim.Native.Nat.{ℕ, suc, _+_, _-_, _≤_, _<_}
 use native.Mathlib.Omega.{arith}
 use mathlib.Core.List.{List, _∷_}
@@ -7,15 +7,15 @@ use lib.ListN.{length, drop}
 use borrow.Author.Needs.{needs}
 use Rattle.rules.specs.declared.EventReading.the-variants.{Short}
 use Rattle.rules.specs.LoadList.{Event, event, head-size, eventsIn}
-use Rattle.rules.specs.Refusals.{unruly}
-use Rattle.laws.proofs.Events.{length-eventsIn, event-read, never-short, unruly-over, unruly-low, unruly-further, unruly-none}
-use Rattle.sheet.proofs.ticks.first_unruly.Statement.{statement}
-use Rattle.sheet.proofs.ticks.first_unruly.Tie as tie
+use Rattle.rules.specs.Refusals.{firstBadTick}
+use Rattle.laws.proofs.Events.{length-eventsIn, event-read, never-short, bad-tick-over, bad-tick-low, bad-tick-further, bad-tick-none}
+use Rattle.sheet.proofs.ticks.first_bad_tick.Statement.{statement}
+use Rattle.sheet.proofs.ticks.first_bad_tick.Tie as tie
 
 abbrev Inv-loop : tie.InvT-loop
 Inv-loop list count index₀ least₀ index least =
     (index ≤ count)
-    × (unruly 0 (eventsIn count (drop head-size list)) ≡ index + unruly least (drop index (eventsIn count (drop head-size list))))
+    × (firstBadTick 0 (eventsIn count (drop head-size list)) ≡ index + firstBadTick least (drop index (eventsIn count (drop head-size list))))
 
 abbrev μ-loop : tie.MeasureT-loop
 μ-loop list count index₀ least₀ index least = count - index
@@ -78,7 +78,7 @@ module _ (p : tie.After-reading Inv-loop μ-loop) where
       event-read (at-start .args .count) index (at-start .args .list .now) turn tick slot symbol
       (sym (at-event .event-of .ensures) ∙ p .reading .given .1)
 
-  whole : unruly 0 events ≡ index + unruly least (drop index events)
+  whole : firstBadTick 0 events ≡ index + firstBadTick least (drop index events)
   whole = at-loop .loop .inv .1
 
 returns-2 : tie.Need-returns-2 Inv-loop μ-loop
@@ -86,8 +86,8 @@ returns-2 c =
     let p : tie.After-reading Inv-loop μ-loop = search in
     let over : 8388607 < tick p = search in
     let all = whole p in
-    let stops : unruly (least p) (drop (index p) (events p)) ≡ 0 =
-    ap (unruly (least p)) (here p) ∙ unruly-over (least p) (tick p) (slot p) (symbol p) _ over in
+    let stops : firstBadTick (least p) (drop (index p) (events p)) ≡ 0 =
+    ap (firstBadTick (least p)) (here p) ∙ bad-tick-over (least p) (tick p) (slot p) (symbol p) _ over in
     omega arith
 
 returns-3 : tie.Need-returns-3 Inv-loop μ-loop
@@ -96,8 +96,8 @@ returns-3 c =
     let fits : tick p ≤ 8388607 = search in
     let low : tick p < least p = search in
     let all = whole p in
-    let stops : unruly (least p) (drop (index p) (events p)) ≡ 0 =
-    ap (unruly (least p)) (here p) ∙ unruly-low (least p) (tick p) (slot p) (symbol p) _ fits low in
+    let stops : firstBadTick (least p) (drop (index p) (events p)) ≡ 0 =
+    ap (firstBadTick (least p)) (here p) ∙ bad-tick-low (least p) (tick p) (slot p) (symbol p) _ fits low in
     omega arith
 
 add-least : tie.Need-add-least Inv-loop μ-loop
@@ -116,8 +116,8 @@ loop-again c =
     let late : least p ≤ tick p = search in
     let all = whole p in
     let in-turn = turn p in
-    let goes : unruly (least p) (drop (index p) (events p)) ≡ suc (unruly (tick p + 1) (drop (index p + 1) (events p))) =
-    ap (unruly (least p)) (here p) ∙ unruly-further (least p) (tick p) (slot p) (symbol p) _ fits late in
+    let goes : firstBadTick (least p) (drop (index p) (events p)) ≡ suc (firstBadTick (tick p + 1) (drop (index p + 1) (events p))) =
+    ap (firstBadTick (least p)) (here p) ∙ bad-tick-further (least p) (tick p) (slot p) (symbol p) _ fits late in
     (omega arith, omega arith)
 
 returns-4 : tie.Need-returns-4 Inv-loop μ-loop
@@ -128,12 +128,12 @@ returns-4 c =
     let l = p .loop in
     let events : List Event = eventsIn (a .count) (drop head-size (a .list .now)) in
     let size : length events ≡ a .count = length-eventsIn (a .count) (drop head-size (a .list .now)) in
-    let none : unruly (l .least) (drop (l .index) events) ≡ 0 = unruly-none (l .least) (l .index) events (omega arith) in
-    let whole : unruly 0 events ≡ l .index + unruly (l .least) (drop (l .index) events) = l .inv .1 in
+    let none : firstBadTick (l .least) (drop (l .index) events) ≡ 0 = bad-tick-none (l .least) (l .index) events (omega arith) in
+    let whole : firstBadTick 0 events ≡ l .index + firstBadTick (l .least) (drop (l .index) events) = l .inv .1 in
     omega arith
 
-pub first-unruly-spec : {M : Type 1} → statement M
-first-unruly-spec =
+pub first-bad-tick-spec : {M : Type 1} → statement M
+first-bad-tick-spec =
     tie.close
     (tie.spec
     Inv-loop

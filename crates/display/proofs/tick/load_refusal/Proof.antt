@@ -1,14 +1,14 @@
--- `load_number` meets its contract: the tests of a load are walked in their order, whatever that order is.
+-- `load_refusal` meets its contract: the tests of a load are walked in their order, whatever that order is.
 use borrow.Author.Needs.{needs}
 use Rattle.laws.proofs.Verdicts.{end, stop, step}
 use Rattle.display.proofs.Loads.{none-asked, asked-met, asked-clear, in-slots}
-use Rattle.display.proofs.tick.load_number.Statement.{statement}
-use Rattle.display.proofs.tick.load_number.Tie as tie
+use Rattle.display.proofs.tick.load_refusal.Statement.{statement}
+use Rattle.display.proofs.tick.load_refusal.Tie as tie
 
 ruleset walk = (none-asked, asked-met, asked-clear, end, stop, step, in-slots)
 
-pub load-number-spec : {M : Type 1} → statement M
-load-number-spec =
+pub load-refusal-spec : {M : Type 1} → statement M
+load-refusal-spec =
     tie.close
     (tie.spec
     (λ c. search needs)

@@ -1,10 +1,10 @@
--- `settle` meets its contract: what happens is refused where it is stuck, and moves the display on where it is not.
+-- `draw_or_wait` meets its contract: what happens is refused where it is stuck, and moves the display on where it is not.
 use mathlib.Core.Bool.{true, false}
 use mathlib.Core.Path.{_≡_, sym, _∙_}
 use borrow.Author.Needs.{needs}
 use Rattle.display.proofs.Ticks.{settled-refused, settled-went}
-use Rattle.display.proofs.tick.settle.Statement.{statement}
-use Rattle.display.proofs.tick.settle.Tie as tie
+use Rattle.display.proofs.tick.draw_or_wait.Statement.{statement}
+use Rattle.display.proofs.tick.draw_or_wait.Tie as tie
 
 happening-of-requires : tie.Need-happening-of-requires
 happening-of-requires c κs = search needs
@@ -40,7 +40,7 @@ returns-2 c =
     (sym (k .is-stuck .ensures) ∙ stuck)
     (after .move-on .result) (after .move-on .ensures (a .slots .now))
 
-pub settle-spec : {M : Type 1} → statement M
-settle-spec =
+pub draw-or-wait-spec : {M : Type 1} → statement M
+draw-or-wait-spec =
     tie.close
     (tie.spec happening-of-requires is-stuck-requires cast-t10 returns move-on-requires returns-2)

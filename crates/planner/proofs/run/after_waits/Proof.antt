@@ -8,8 +8,8 @@ use Rattle.display.proofs.Stretches.{rested-none}
 use Rattle.display.specs.Still.{waiting}
 use Rattle.planner.specs.Runs.{Waits}
 use Rattle.planner.proofs.Walks.{waits-none}
-use Rattle.planner.proofs.run.rest_of.Statement.{statement}
-use Rattle.planner.proofs.run.rest_of.Tie as tie
+use Rattle.planner.proofs.run.after_waits.Statement.{statement}
+use Rattle.planner.proofs.run.after_waits.Tie as tie
 
 enum-told : tie.Need-enum-told
 enum-told c = search needs
@@ -26,8 +26,8 @@ before-end-requires c κs = search needs
 smaller-requires : tie.Need-smaller-requires
 smaller-requires c κs = search needs
 
-pass-requires : tie.Need-pass-requires
-pass-requires c κs = search needs
+pass-waits-requires : tie.Need-pass-waits-requires
+pass-waits-requires c κs = search needs
 
 returns : tie.Need-returns
 returns c =
@@ -37,26 +37,26 @@ returns c =
 
 returns-2 : tie.Need-returns-2
 returns-2 c =
-    let after : tie.After-pass = search in
+    let after : tie.After-pass-waits = search in
     let s : tie.Start = search in
     let waits : tie.After-enum-told2 = search in
     let ends : tie.After-before-end = search in
     let fewer : tie.After-smaller = search in
     let d = s .args .d in
     let n = fewer .smaller .result in
-    let end : ends .before-end .result ≡ d .until - 1 = ends .before-end .ensures in
+    let end : ends .before-end .result ≡ d .remaining - 1 = ends .before-end .ensures in
     let least : n ≡ min (8388607 - d .tick) (ends .before-end .result) = fewer .smaller .ensures in
     let early : d .tick ≤ last-tick = s .pre .0 in
     record {
       many = n;
-      passes = after .pass .ensures;
+      passes = after .pass-waits .ensures;
       in-time = omega arith;
       behind = λ some. ap waiting (waits .enum-told2 .given .1);
       still = record { before-end = λ ends. omega arith; under-way = λ some. omega arith };
     }
 
-pub rest-of-spec : {M : Type 1} → statement M
-rest-of-spec =
+pub after-waits-spec : {M : Type 1} → statement M
+after-waits-spec =
     tie.close
     (tie.spec
     enum-told
@@ -64,6 +64,6 @@ rest-of-spec =
     sub-smaller
     before-end-requires
     smaller-requires
-    pass-requires
+    pass-waits-requires
     returns
     returns-2)
