@@ -1,4 +1,4 @@
--- `first_bad_tick` meets its contract: at each turn the events passed and the first unruly one of those left make up the answer.
+-- `first_bad_tick` meets its contract: at each turn the events passed and the first bad tick of those left make up the answer.
 use Prim.Native.Nat.{ℕ, suc, _+_, _-_, _≤_, _<_}
 use native.Mathlib.Omega.{arith}
 use mathlib.Core.List.{List, _∷_}
