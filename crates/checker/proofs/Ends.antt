@@ -68,17 +68,14 @@ finished-early count d answer left e =
     }
 
 -- None is left: the counts, and every draw noted.
-pub finished-whole : (count : ℕ) (d : Display) → count ≤ d .loads
-    → Finished count d
-    (record {
-      answer = record { number = 0; detail = 0; elapsed = d .tick; waits = d .waits; loads = d .loads };
-      drawn = d .next;
-    })
-finished-whole count d all =
+pub finished-whole : (count : ℕ) (d : Display) (answer : Answer) → count ≤ d .loads
+    → ((held : List ℕ) (h : History) → answer ≡ answerOf (going (view held h d)))
+    → Finished count d (record { answer = answer; drawn = d .next })
+finished-whole count d answer all counts =
     record {
       shows = λ k n h events ticks slots size few at from.
           let none : ltb (d .loads) (length events) ≡ false = le-ltb (d .loads) (length events) (omega arith) in
-          record { answers = rw none; few = few; at = rw none (sym at); from = rw none (sym from) };
+          record { answers = rw none (counts k h); few = few; at = rw none (sym at); from = rw none (sym from) };
     }
 
 -- The ways out of the loop, each with its answer.

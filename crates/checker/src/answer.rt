@@ -1,8 +1,8 @@
 // The check of a list against a job: every refusal in its order, then the run, whose draws are handed out only where it is accepted.
 use crate::copy::copy_slots;
 use crate::copy::copy_ticks;
-use crate::run::refusal;
 use crate::run::run_list;
+use display::refusal;
 use rules::Answer;
 use rules::JobReading;
 use rules::ListReading;

@@ -2,6 +2,8 @@
 use crate::follow::follow_tick;
 use crate::rest::after_waits;
 use display::Display;
+use display::accepted;
+use display::refusal;
 use display::start;
 use rules::Answer;
 use rules::Happening;
@@ -37,18 +39,6 @@ pub struct Ran {
     pub drawn: u16,
 }
 
-pub fn refusal(number: u32, detail: u32) -> Answer
-    ensures { λ r. ⌜ r ≡ answerOf (refused number detail) ⌝ }
-{
-    Answer {
-        number,
-        detail,
-        elapsed: 0,
-        waits: 0,
-        loads: 0,
-    }
-}
-
 // The end of a run that was not refused on the way: accepted, unless an event is left. (Refusal 14)
 fn finish(d: Display, count: u16) -> Ran
     ensures { λ r. ⌜ Finished count d r ⌝ }
@@ -60,13 +50,7 @@ fn finish(d: Display, count: u16) -> Ran
         };
     }
     Ran {
-        answer: Answer {
-            number: 0,
-            detail: 0,
-            elapsed: d.tick,
-            waits: d.waits,
-            loads: d.loads,
-        },
+        answer: accepted(d),
         drawn: d.next,
     }
 }

@@ -1,9 +1,13 @@
-// The display: its state by value and its slots lent, the steps of a tick, a stretch of waits, and the search for the slot of a symbol.
+// The display: its state by value and its slots lent, the steps of a tick, a stretch of waits, the search for the slot of a
+// symbol, and the answer at the end of a run.
+mod answer;
 mod search;
 mod state;
 mod still;
 mod tick;
 
+pub use answer::accepted;
+pub use answer::refusal;
 pub use search::find;
 pub use state::Display;
 pub use state::begin;

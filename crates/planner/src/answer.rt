@@ -3,6 +3,8 @@ use crate::run::Ran;
 use crate::run::run_plan;
 use crate::write::write_list;
 use choice::row_of;
+use display::accepted;
+use display::refusal;
 use rules::Answer;
 use rules::JobReading;
 use rules::Shape;
@@ -20,25 +22,13 @@ ghost use Rattle.choice.specs.Asks.{rowOf};
 ghost use Rattle.planner.specs.Loads.{Whole};
 ghost use Rattle.planner.specs.Runs.{Given, Planned, HasRoom, CarriedOut};
 
-fn refusal(number: u32) -> Answer
-    ensures { λ r. ⌜ r ≡ answerOf (refused number 0) ⌝ }
-{
-    Answer {
-        number,
-        detail: 0,
-        elapsed: 0,
-        waits: 0,
-        loads: 0,
-    }
-}
-
 // The answer to a job that was not taken; a job that was taken has number 0.
 fn refusal_of(reading: JobReading) -> Answer
     ensures { λ r. ⌜ r ≡ answerOf (refused (jobNumber reading) 0) ⌝ }
 {
     match reading {
-        JobReading::Taken(_) => refusal(0),
-        JobReading::Refused(number) => refusal(number),
+        JobReading::Taken(_) => refusal(0, 0),
+        JobReading::Refused(number) => refusal(number, 0),
     }
 }
 
@@ -191,15 +181,9 @@ fn carry_out(job: &[u8], shape: Shape, plan: u32, room: &mut [u8]) -> Answer
     if ran.over {
         let d = ran.display;
         write_list(room, d.loads as u16, &ticks, &slots, &symbols);
-        return Answer {
-            number: 0,
-            detail: 0,
-            elapsed: d.tick,
-            waits: d.waits,
-            loads: d.loads,
-        };
+        return accepted(d);
     }
-    refusal(15)
+    refusal(15, 0)
 }
 
 // Plans the job and writes the list from the room's first byte on; where it is refused, the room is as it was.
@@ -212,10 +196,10 @@ pub fn plan(job: &[u8], plan: u32, room: &mut [u8]) -> Answer
         return refusal_of(reading);
     };
     if unknown(plan) {
-        return refusal(6);
+        return refusal(6, 0);
     }
     if short_room(shape.draws, room.len()) {
-        return refusal(7);
+        return refusal(7, 0);
     }
     carry_out(job, shape, plan, room)
 }

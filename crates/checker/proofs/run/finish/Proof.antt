@@ -13,10 +13,14 @@ returns c =
     let s : tie.Start = search in
     finished-early (s .args .count) (s .args .d) (after .refusal .result) (search) (after .refusal .ensures)
 
+accepted-requires : tie.Need-accepted-requires
+accepted-requires c κs = search needs
+
 returns-2 : tie.Need-returns-2
 returns-2 c =
+    let after : tie.After-accepted = search in
     let s : tie.Start = search in
-    finished-whole (s .args .count) (s .args .d) search
+    finished-whole (s .args .count) (s .args .d) (after .accepted .result) (search) (after .accepted .ensures)
 
 pub finish-spec : {M : Type 1} → statement M
-finish-spec = tie.close (tie.spec refusal-requires returns returns-2)
+finish-spec = tie.close (tie.spec refusal-requires returns accepted-requires returns-2)

@@ -64,19 +64,23 @@ write-list-requires c κs =
     fitting (a .args .job .now) (a .args .shape) (a .pre .taken) (a .args .plan) (ran .result) _ _ _ _ (ran .ensures)
     (ran .kept .1 .1 .1 .0 ∙ all) (ran .kept .1 .1 .1 .1 .1 .0 ∙ all) (ran .kept .1 .1 .1 .1 .1 .1 .0 ∙ all) (a .args .room .now) (a .pre .enough)
 
+accepted-requires : tie.Need-accepted-requires
+accepted-requires c κs = search needs
+
 same-length : tie.Need-same-length
 same-length c = search needs
 
 returns : tie.Need-returns
 returns c =
     let w : tie.After-write-list = search in
+    let accepts : tie.After-accepted = search in
     let q : tie.After-d = search in
     let a : tie.Start = start (run-at q) in
     let ran = run-at q .run-of in
     let goes : inTime (runPlan (jobOf (a .args .job .now)) (ruleOf (jobOf (a .args .job .now)) (a .args .plan))) ≡ going _ =
     ends-over (a .args .job .now) (a .args .plan) (ran .result) _ _ _ _ (ran .ensures) (is-over q) in
     record {
-      answers = ap answerOf (sym goes);
+      answers = accepts .accepted .ensures (ran .ensures .shown .held) (ran .ensures .shown .beside) ∙ ap answerOf (sym goes);
       writes =
           w .write-list .ensures (ran .ensures .shown .beside .begun)
           (written (a .args .job .now) (a .args .shape) (a .pre .taken) (a .args .plan) (ran .result) _ _ _ _ (ran .ensures))
@@ -113,6 +117,7 @@ carry-out-spec =
     slice-aggregate-write-list-2
     slice-aggregate-write-list-3
     write-list-requires
+    accepted-requires
     same-length
     returns
     refusal-requires
