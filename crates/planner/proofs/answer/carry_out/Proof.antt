@@ -23,18 +23,6 @@ module _ (q : tie.After-d) where
   is-over : run-at .run-of .result .over ≡ true
   is-over = search
 
-slice-aggregate-run-of : tie.Need-slice-aggregate-run-of
-slice-aggregate-run-of c = search needs
-
-slice-aggregate-run-of-2 : tie.Need-slice-aggregate-run-of-2
-slice-aggregate-run-of-2 c = search needs
-
-slice-aggregate-run-of-3 : tie.Need-slice-aggregate-run-of-3
-slice-aggregate-run-of-3 c = search needs
-
-slice-aggregate-run-of-4 : tie.Need-slice-aggregate-run-of-4
-slice-aggregate-run-of-4 c = search needs
-
 -- Each of the four rows has a place for the most draws.
 all : length (replicate {A = ℕ} 4096 0) ≡ 4096
 all = length-replicate {A = ℕ} 4096 0
@@ -44,18 +32,6 @@ run-of-requires c κs =
     let a : tie.Start = search in
     (a .pre .taken, record { ticks-room = all; draws-room = all; slots-room = all; symbols-room = all })
 
-cast-write-list : tie.Need-cast-write-list
-cast-write-list c = search needs
-
-slice-aggregate-write-list : tie.Need-slice-aggregate-write-list
-slice-aggregate-write-list c = search needs
-
-slice-aggregate-write-list-2 : tie.Need-slice-aggregate-write-list-2
-slice-aggregate-write-list-2 c = search needs
-
-slice-aggregate-write-list-3 : tie.Need-slice-aggregate-write-list-3
-slice-aggregate-write-list-3 c = search needs
-
 write-list-requires : tie.Need-write-list-requires
 write-list-requires c κs =
     let p : tie.After-run-of = search in
@@ -63,9 +39,6 @@ write-list-requires c κs =
     let ran = p .run-of in
     fitting (a .args .job .now) (a .args .shape) (a .pre .taken) (a .args .plan) (ran .result) _ _ _ _ (ran .ensures)
     (ran .kept .1 .1 .1 .0 ∙ all) (ran .kept .1 .1 .1 .1 .1 .0 ∙ all) (ran .kept .1 .1 .1 .1 .1 .1 .0 ∙ all) (a .args .room .now) (a .pre .enough)
-
-same-length : tie.Need-same-length
-same-length c = search needs
 
 returns : tie.Need-returns
 returns c =
@@ -82,9 +55,6 @@ returns c =
           (written (a .args .job .now) (a .args .shape) (a .pre .taken) (a .args .plan) (ran .result) _ _ _ _ (ran .ensures))
           ∙ ap (λ (x : Run). lent (writtenBy x) (a .args .room .now)) (sym goes);
     }
-
-refusal-requires : tie.Need-refusal-requires
-refusal-requires c κs = search needs
 
 returns-2 : tie.Need-returns-2
 returns-2 c =
@@ -103,17 +73,17 @@ pub carry-out-spec : {M : Type 1} → statement M
 carry-out-spec =
     tie.close
     (tie.spec
-    slice-aggregate-run-of
-    slice-aggregate-run-of-2
-    slice-aggregate-run-of-3
-    slice-aggregate-run-of-4
+    (λ c. search needs)
+    (λ c. search needs)
+    (λ c. search needs)
+    (λ c. search needs)
     run-of-requires
-    cast-write-list
-    slice-aggregate-write-list
-    slice-aggregate-write-list-2
-    slice-aggregate-write-list-3
+    (λ c. search needs)
+    (λ c. search needs)
+    (λ c. search needs)
+    (λ c. search needs)
     write-list-requires
-    same-length
+    (λ c. search needs)
     returns
-    refusal-requires
+    (λ c κs. search needs)
     returns-2)
