@@ -44,7 +44,10 @@ pub never-met : (tests : List Test) (n d : ℕ) → has n tests ≡ false → fi
 unfolding firstOf
 never-met [] n d lacks e = let z : _≡_ {A = ℕ} 0 1 = cc in omega arith
 never-met (test m c true ∷ later) n d lacks e =
-    let same : m ≡ n = cc in let z : true ≡ false = sym (eq-eqb m n same) ∙ neither (eqb m n) _ lacks .0 in let w : _≡_ {A = ℕ} 0 1 = cc in omega arith
+    let same : m ≡ n = cc in
+    let never : true ≡ false = sym (eq-eqb m n same) ∙ neither (eqb m n) _ lacks .0 in
+    let z : _≡_ {A = ℕ} 0 1 = cc in
+    omega arith
 never-met (test m c false ∷ later) n d lacks e = never-met later n d (neither (eqb m n) _ lacks .1) e
 
 -- Whether at most one test has this number.
@@ -86,13 +89,9 @@ given-exactly tests n d single = (given tests single, gives tests)
         (λ t. let w : false ≡ true = rw t at (g .holds) in let z : _≡_ {A = ℕ} 0 1 = cc in absurd (omega arith))
         (λ t. gives later (record { holds = rw t at (g .holds); detail = rw t at (g .detail); first = rw t at (g .first) }))
 
--- What is shown of each test, given that it holds and that no test in front of it does, is so of the one that is met.
-unfoldable pub Each : (ℕ → ℕ → Type 0) → List Test → List Test → Type 0
-Each P front [] = Unit {0}
-Each P front (test n d holds ∷ later) = (firstOf front ≡ clear → holds ≡ true → P n d) × Each P (front ++ (test n d holds ∷ [])) later
-
 -- ---- One order behind another
 
+-- Where no test of the first holds, the second decides.
 abbrev pub otherwise : Verdict → Verdict → Verdict
 otherwise clear v = v
 otherwise (met n d) v = met n d
@@ -106,21 +105,10 @@ first-append (test n d false ∷ later) others = first-append later others
 pub clear-append : (tests others : List Test) → firstOf (tests ++ others) ≡ clear → (firstOf tests ≡ clear) × (firstOf others ≡ clear)
 clear-append tests others e = by-first (firstOf tests) refl (sym (first-append tests others) ∙ e)
   where
-    by-first : (v : Verdict) → firstOf tests ≡ v → otherwise (firstOf tests) (firstOf others) ≡ clear → (firstOf tests ≡ clear) × (firstOf others ≡ clear)
+    by-first : (v : Verdict) → firstOf tests ≡ v → otherwise (firstOf tests) (firstOf others) ≡ clear
+        → (firstOf tests ≡ clear) × (firstOf others ≡ clear)
     by-first clear is f = (is, rw is at f)
     by-first (met n d) is f = let w : met n d ≡ clear = rw is at f in let z : _≡_ {A = ℕ} 0 1 = cc in absurd (omega arith)
-
-pub met-by : (P : ℕ → ℕ → Type 0) (tests : List Test) (n d : ℕ) → Each P [] tests → firstOf tests ≡ met n d → P n d
-unfolding firstOf Each
-met-by P tests n d each e = from [] tests refl each e
-  where
-    from : (front later : List Test) → firstOf front ≡ clear → Each P front later → firstOf later ≡ met n d → P n d
-    from front [] so each e = let z : _≡_ {A = ℕ} 0 1 = cc in absurd (omega arith)
-    from front (test m c true ∷ later) so each e =
-        let number : m ≡ n = cc in
-        let detail : c ≡ d = cc in
-        rw (← number, ← detail) (each .0 so refl)
-    from front (test m c false ∷ later) so each e = from (front ++ (test m c false ∷ [])) later (rw (first-append, so)) (each .1) e
 
 -- A run behind two orders is behind the first of them, and in that behind the second.
 pub unless-append : (tests others : List Test) (r : Run) → unless (firstOf (tests ++ others)) r ≡ unless (firstOf tests) (unless (firstOf others) r)
@@ -140,6 +128,25 @@ pub unless-refused : (v : Verdict) (s : State) (n d : ℕ) → unless v (going s
 unless-refused clear s n d e = let z : _≡_ {A = ℕ} 0 1 = cc in absurd (omega arith)
 unless-refused (met m c) s n d e = cc
 
+-- ---- Test by test
+
+-- What is shown of each test, given that it holds and that no test in front of it does, is so of the one that is met.
+unfoldable pub Each : (ℕ → ℕ → Type 0) → List Test → List Test → Type 0
+Each P front [] = Unit {0}
+Each P front (test n d holds ∷ later) = (firstOf front ≡ clear → holds ≡ true → P n d) × Each P (front ++ (test n d holds ∷ [])) later
+
+pub met-by : (P : ℕ → ℕ → Type 0) (tests : List Test) (n d : ℕ) → Each P [] tests → firstOf tests ≡ met n d → P n d
+unfolding firstOf Each
+met-by P tests n d each e = from [] tests refl each e
+  where
+    from : (front later : List Test) → firstOf front ≡ clear → Each P front later → firstOf later ≡ met n d → P n d
+    from front [] so each e = let z : _≡_ {A = ℕ} 0 1 = cc in absurd (omega arith)
+    from front (test m c true ∷ later) so each e =
+        let number : m ≡ n = cc in
+        let detail : c ≡ d = cc in
+        rw (← number, ← detail) (each .0 so refl)
+    from front (test m c false ∷ later) so each e = from (front ++ (test m c false ∷ [])) later (rw (first-append, so)) (each .1) e
+
 -- ---- As code meets an order
 
 -- An order walked test by test, each test as a function answered it: the first that held stops the walk.
@@ -155,6 +162,7 @@ gives tests v end = refl
 gives tests v (stop r is held) = rw (sym is ∙ held)
 gives tests v (step r is failed g) = rw (sym is ∙ failed) (gives _ v g)
 
+-- Every order can be walked so, to what it comes to.
 pub walked : (tests : List Test) (v : Verdict) → firstOf tests ≡ v → Gives tests v
 unfolding firstOf
 walked [] v e = rw (← e) end

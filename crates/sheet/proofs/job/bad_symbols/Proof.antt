@@ -1,8 +1,8 @@
 -- `bad_symbols` meets its contract: the two tests are those of refusal 5.
+use Prim.Native.Nat.{ℕ}
 use mathlib.Core.Path.{_≡_, sym, ap, _∙_}
 use mathlib.Core.Bool.{Bool, true, false}
 use mathlib.Core.List.{List}
-use Prim.Native.Nat.{ℕ}
 use lib.ListN.{drop}
 use borrow.Author.Needs.{needs}
 use Rattle.rules.specs.Job.{symbols, starting-at, draws-at}
@@ -10,15 +10,6 @@ use Rattle.rules.specs.Refusals.{badSymbols}
 use Rattle.rules.specs.declared.Shape.{Shape}
 use Rattle.sheet.proofs.job.bad_symbols.Statement.{statement}
 use Rattle.sheet.proofs.job.bad_symbols.Tie as tie
-
-shape-of-requires : tie.Need-shape-of-requires
-shape-of-requires c κs = search needs
-
-cast-doubled-in : tie.Need-cast-doubled-in
-cast-doubled-in c = search needs
-
-doubled-in-requires : tie.Need-doubled-in-requires
-doubled-in-requires c κs = search needs
 
 -- The test of refusal 5 for a job of this shape.
 abbrev bad : List ℕ → Shape → Bool
@@ -32,18 +23,6 @@ returns c =
     let held : p .doubled-in .result ≡ true = search in
     let is : true ≡ bad (start .args .job .now) (q .shape-of .result) = simp (sym (p .doubled-in .ensures) ∙ held) in
     is ∙ ap (bad (start .args .job .now)) (q .shape-of .ensures)
-
-cast-stands-in : tie.Need-cast-stands-in
-cast-stands-in c = search needs
-
-mul-stands-in : tie.Need-mul-stands-in
-mul-stands-in c = search needs
-
-add-stands-in : tie.Need-add-stands-in
-add-stands-in c = search needs
-
-stands-in-requires : tie.Need-stands-in-requires
-stands-in-requires c κs = search needs
 
 returns-2 : tie.Need-returns-2
 returns-2 c =
@@ -59,12 +38,12 @@ pub bad-symbols-spec : {M : Type 1} → statement M
 bad-symbols-spec =
     tie.close
     (tie.spec
-    shape-of-requires
-    cast-doubled-in
-    doubled-in-requires
+    (λ c κs. search needs)
+    (λ c. search needs)
+    (λ c κs. search needs)
     returns
-    cast-stands-in
-    mul-stands-in
-    add-stands-in
-    stands-in-requires
+    (λ c. search needs)
+    (λ c. search needs)
+    (λ c. search needs)
+    (λ c κs. search needs)
     returns-2)
