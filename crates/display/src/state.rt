@@ -49,12 +49,19 @@ fn put(slots: &mut [u16], slot: u16, content: u16)
     }
 }
 
-fn nearer(mut d: Display) -> Display
+fn nearer(d: Display) -> Display
     requires { ⌜ 1 ≤ d .remaining ⌝ }
     ensures { λ r. ⌜ r ≡ record { tick = d .tick; waits = d .waits; loads = d .loads; next = d .next; remaining = d .remaining - 1; target = d .target; incoming = d .incoming } ⌝ }
 {
-    d.remaining -= 1;
-    d
+    Display {
+        tick: d.tick,
+        waits: d.waits,
+        loads: d.loads,
+        next: d.next,
+        remaining: d.remaining - 1,
+        target: d.target,
+        incoming: d.incoming,
+    }
 }
 
 // Step 1 of a tick.
@@ -72,7 +79,7 @@ pub fn land(slots: &mut [u16], d: Display) -> Display
 }
 
 // Step 2 of a tick, where the load that is asked for, if any is, was not refused.
-pub fn begin(slots: &mut [u16], mut d: Display, time: u16, asked: MaybeLoad) -> Display
+pub fn begin(slots: &mut [u16], d: Display, time: u16, asked: MaybeLoad) -> Display
     requires { ⌜ (1 ≤ time) × (d .loads < 4294967295) ⌝ }
     ensures { λ r. ⌜ ((h : History) (job : Job) → job .time ≡ time → view (now (slots .exit)) (historyBegun d asked h) r ≡ begunBy job asked (view (now (slots .entry)) h d)) ⌝ }
 {
@@ -80,29 +87,45 @@ pub fn begin(slots: &mut [u16], mut d: Display, time: u16, asked: MaybeLoad) -> 
         return d;
     };
     put(slots, slot as u16, FREE);
-    d.loads += 1;
-    d.remaining = time;
-    d.target = slot as u16;
-    d.incoming = symbol;
-    d
+    Display {
+        tick: d.tick,
+        waits: d.waits,
+        loads: d.loads + 1,
+        next: d.next,
+        remaining: time,
+        target: slot as u16,
+        incoming: symbol,
+    }
 }
 
 // Step 3 of a tick that draws, from whatever slot.
-pub fn draw(mut d: Display) -> Display
+pub fn draw(d: Display) -> Display
     requires { ⌜ (d .tick < 4294967295) × (d .next < 65535) ⌝ }
     ensures { λ r. ⌜ ((slots : List ℕ) (h : History) (q : ℕ) → view slots (drawnNow d q h) r ≡ draw q (view slots h d)) ⌝ }
 {
-    d.tick += 1;
-    d.next += 1;
-    d
+    Display {
+        tick: d.tick + 1,
+        waits: d.waits,
+        loads: d.loads,
+        next: d.next + 1,
+        remaining: d.remaining,
+        target: d.target,
+        incoming: d.incoming,
+    }
 }
 
 // Step 3 of a tick that waits.
-pub fn wait(mut d: Display) -> Display
+pub fn wait(d: Display) -> Display
     requires { ⌜ (d .tick < 4294967295) × (d .waits < 4294967295) ⌝ }
     ensures { λ r. ⌜ ((slots : List ℕ) (h : History) → view slots h r ≡ wait (view slots h d)) ⌝ }
 {
-    d.tick += 1;
-    d.waits += 1;
-    d
+    Display {
+        tick: d.tick + 1,
+        waits: d.waits + 1,
+        loads: d.loads,
+        next: d.next,
+        remaining: d.remaining,
+        target: d.target,
+        incoming: d.incoming,
+    }
 }

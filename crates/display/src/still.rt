@@ -31,12 +31,17 @@ fn ticks_left(remaining: u16, ticks: u32) -> u16
 }
 
 // The display behind so many waits.
-pub fn pass_waits(mut d: Display, ticks: u32) -> Display
+pub fn pass_waits(d: Display, ticks: u32) -> Display
     requires { ⌜ (d .tick + ticks ≤ 4294967295) × (d .waits + ticks ≤ 4294967295) ⌝ }
     ensures { λ r. ⌜ r ≡ passed ticks d ⌝ }
 {
-    d.tick += ticks;
-    d.waits += ticks;
-    d.remaining = ticks_left(d.remaining, ticks);
-    d
+    Display {
+        tick: d.tick + ticks,
+        waits: d.waits + ticks,
+        loads: d.loads,
+        next: d.next,
+        remaining: ticks_left(d.remaining, ticks),
+        target: d.target,
+        incoming: d.incoming,
+    }
 }

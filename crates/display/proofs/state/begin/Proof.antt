@@ -24,11 +24,11 @@ cast-put c = search needs
 put-requires : tie.Need-put-requires
 put-requires c κs = search needs
 
-add-d : tie.Need-add-d
-add-d c = search needs
+add-t11 : tie.Need-add-t11
+add-t11 c = search needs
 
-cast-d : tie.Need-cast-d
-cast-d c = search needs
+cast-t10 : tie.Need-cast-t10
+cast-t10 c = search needs
 
 same-length : tie.Need-same-length
 same-length c = search needs
@@ -53,7 +53,7 @@ begin-spec =
     returns
     cast-put
     put-requires
-    add-d
-    cast-d
+    add-t11
+    cast-t10
     same-length
     returns-2)

@@ -3,11 +3,11 @@ use borrow.Author.Needs.{needs}
 use Rattle.display.proofs.still.pass_waits.Statement.{statement}
 use Rattle.display.proofs.still.pass_waits.Tie as tie
 
-add-d : tie.Need-add-d
-add-d c = search needs
+add-t3 : tie.Need-add-t3
+add-t3 c = search needs
 
-add-d-2 : tie.Need-add-d-2
-add-d-2 c = search needs
+add-t4 : tie.Need-add-t4
+add-t4 c = search needs
 
 ticks-left-requires : tie.Need-ticks-left-requires
 ticks-left-requires c κs = search needs
@@ -18,4 +18,4 @@ returns c =
     simp (after .ticks-left .ensures)
 
 pub pass-waits-spec : {M : Type 1} → statement M
-pass-waits-spec = tie.close (tie.spec add-d add-d-2 ticks-left-requires returns)
+pass-waits-spec = tie.close (tie.spec add-t3 add-t4 ticks-left-requires returns)
