@@ -29,7 +29,7 @@ function flush() {
     if (!held) return
     theorems++
     table = table "\npart-" theorems " : map found (" substr(rows, 5) "[]) ≡ map expected (" substr(rows, 5) "[])\n" \
-        "unfolding planned checked run tick beginning happened place symbols doubled missing greatest eventsIn eventsBytes due firstBadTick\n" \
+        "unfolding planned checked run tick beginning happened place symbols doubled missing ranksFrom greatest eventsIn eventsBytes due firstBadTick\n" \
         "part-" theorems " = refl\n"
     rows = ""
     held = 0
@@ -62,7 +62,7 @@ END {
     print "use Rattle.rules.specs.Job.{symbols}"
     print "use Rattle.rules.specs.LoadList.{eventsIn, eventsBytes}"
     print "use Rattle.rules.specs.Display.{run, tick, beginning, happened}"
-    print "use Rattle.rules.specs.Plans.{missing, greatest}"
+    print "use Rattle.rules.specs.Plans.{missing, ranksFrom, greatest}"
     print "use Rattle.rules.specs.Refusals.{checked, planned, due, firstBadTick, doubled}"
     print "use Rattle.rules.specs.Worked.{Row, row, plan, list, check, ticks, slots, found, expected}"
     print table

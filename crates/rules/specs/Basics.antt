@@ -6,13 +6,13 @@ use mathlib.Core.List.{List, [], _∷_}
 use lib.ListN.{length, getD}
 use lib.Dec.{eqb, ltb}
 
--- The first place of x in a list, counted from 0, or the list's length where x does not stand in it.
+-- The first place of x in a list, counted from 0, or the list's length where x is not in it.
 -- ("The four plans": a search stops at the first match.)
 unfoldable pub place : ℕ → List ℕ → ℕ
 place x [] = 0
 place x (y ∷ l) = cond (eqb x y) 0 (suc (place x l))
 
--- Whether x stands in a list.
+-- Whether x is in a list.
 abbrev pub stands : ℕ → List ℕ → Bool
 stands x l = ltb (place x l) (length l)
 

@@ -67,7 +67,7 @@ pub data Run : Type 0 where
   going : State → Run
   refused : (number detail : ℕ) → Run
 
--- A run behind an order of refusals: refused by the first test that holds, and as it is where none does.
+-- A run after an order of refusals: refused by the first test that holds, and as it is where none does.
 abbrev pub unless : Verdict → Run → Run
 unless clear r = r
 unless (met number detail) r = refused number detail
@@ -110,7 +110,7 @@ begin job q x s =
       next = s .next;
       rest = s .rest;
       slots = set (s .slots) q free;
-      loading = Under (job .time - 1) q x;
+      loading = Under (job .load-time - 1) q x;
       waits = s .waits;
       loads = s .loads + 1;
       made = s .made;
@@ -121,11 +121,11 @@ abbrev pub idle : Loading → Bool
 idle Idle = true
 idle (Under left q x) = false
 
--- Which slots an event may name: those below k. (Refusal 11)
+-- Which slots a load may go into, whether an event of a list names one (refusal 11) or a plan chooses one: those below k.
 abbrev pub loadable : Job → ℕ → Bool
 loadable job q = ltb q (job .slots)
 
--- The order for one load: while another is under way (10), into a slot that may not be named (11), and of a symbol that some slot
+-- The order for one load: while another is under way (10), into a slot that it may not go into (11), and of a symbol that some slot
 -- holds or that is no symbol (12). The detail is the number of the event, counted from 0.
 abbrev pub loadTests : Job → ℕ → ℕ → State → List Test
 loadTests job q x s =
@@ -217,7 +217,7 @@ unfoldable pub tick : Job → Rule → State → Run
 tick job rule s =
     then (beginning job (asked rule s) (land s)) (λ b. happened (recordOf (asked rule s) b .happening) (rule .done b) b)
 
--- So many ticks of a run. Once no draw remains the display stands still.
+-- A run of t ticks. Once no draw remains the display does not move any more.
 abbrev pub finished : List ℕ → Bool
 finished [] = true
 finished (x ∷ rest) = false

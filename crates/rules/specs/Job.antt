@@ -1,4 +1,5 @@
--- The job as bytes: where its numbers stand and which symbols it holds. (Document 01, "The job, byte for byte", first half)
+-- The job as bytes: the places of its numbers and of its symbols; and the job of the model, read from what a call asks.
+-- (Document 01, "The job, byte for byte", first half)
 use Prim.Native.Nat.{ℕ, zero, suc, _+_, _*_}
 use mathlib.Core.List.{List, [], _∷_}
 use lib.ListN.{getD, drop}
@@ -13,42 +14,58 @@ free = 65535
 abbrev pub most-slots : ℕ
 most-slots = 64
 
-abbrev pub most-time : ℕ
-most-time = 1000
+abbrev pub most-load-time : ℕ
+most-load-time = 1000
 
 abbrev pub most-draws : ℕ
 most-draws = 4096
 
--- After the length (4 bytes) and the version (1) stand the slots k (1), the load time F (2) and the draws n (2).
+-- After the length (4 bytes) and the version (1) come the slots k (1), the load time F (2) and the draws n (2).
 abbrev pub shapeOf : List ℕ → Shape
-shapeOf job = record { slots = getD job 5 0; time = number16 job 6; draws = number16 job 8 }
+shapeOf job = record { slots = getD job 5 0; «load_time» = number16 job 6; draws = number16 job 8 }
 
--- Behind these ten bytes stand k starting symbols, then n drawn ones, two bytes each.
+-- After these ten bytes come k starting symbols, then n drawn ones, two bytes each.
 abbrev pub starting-at : ℕ
 starting-at = 10
 
 abbrev pub draws-at : ℕ → ℕ
 draws-at k = starting-at + 2 * k
 
--- The first so many symbols of a row of bytes.
+-- The first n symbols of a row of bytes.
 unfoldable pub symbols : ℕ → List ℕ → List ℕ
 symbols zero b = []
 symbols (suc n) b = number16 b 0 ∷ symbols n (drop 2 b)
 
--- A job as the display meets it: the number of slots, the load time, what each slot holds at the start, and the draws.
+-- The starting symbols of a job, and its drawn ones.
+abbrev pub startingSymbols : List ℕ → List ℕ
+startingSymbols job = symbols (shapeOf job .slots) (drop starting-at job)
+
+abbrev pub drawnSymbols : List ℕ → List ℕ
+drawnSymbols job = symbols (shapeOf job .draws) (drop (draws-at (shapeOf job .slots)) job)
+
+-- What a plan and a check are asked about: the bytes of a job.
+pub record Call : Type 0 where
+  pub job : List ℕ
+
+abbrev pub call : List ℕ → Call
+call job = record { job = job }
+
+-- The draws that a call speaks of: those of its sheet, once.
+abbrev pub drawsOf : Call → List ℕ
+drawsOf asked = drawnSymbols (asked .job)
+
+-- A job as the display meets it: the number of slots, the ticks that a load takes, what each slot holds at the start, and the draws.
 pub record Job : Type 0 where
   pub slots : ℕ
-  pub time : ℕ
+  pub load-time : ℕ
   pub starting : List ℕ
   pub draws : List ℕ
 
--- The draws that a plan and a check speak of: the sheet's n draws, once.
-abbrev pub drawsOf : List ℕ → List ℕ
-drawsOf job = symbols (shapeOf job .draws) (drop (draws-at (shapeOf job .slots)) job)
-
-abbrev pub startingOf : List ℕ → List ℕ
-startingOf job = symbols (shapeOf job .slots) (drop starting-at job)
-
-abbrev pub jobOf : List ℕ → Job
-jobOf job =
-    record { slots = shapeOf job .slots; time = shapeOf job .time; starting = startingOf job; draws = drawsOf job }
+abbrev pub jobOf : Call → Job
+jobOf asked =
+    record {
+      slots = shapeOf (asked .job) .slots;
+      load-time = shapeOf (asked .job) .«load_time»;
+      starting = startingSymbols (asked .job);
+      draws = drawsOf asked;
+    }

@@ -6,3 +6,4 @@ pub mod Display
 pub mod Plans
 pub mod Refusals
 pub mod Worked
+pub mod Telling

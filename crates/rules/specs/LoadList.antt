@@ -46,7 +46,7 @@ abbrev pub readEvent : List ℕ → EventReading
 readEvent part =
     cond (ltb (length part) event-size) reading.Short (reading.Event (tickIn part) (slotIn part) (symbolIn part))
 
--- So many events, one behind the other, from the part that begins at the first.
+-- The first m events, one after the other, from the part that begins at the first.
 unfoldable pub eventsIn : ℕ → List ℕ → List Event
 eventsIn zero part = []
 eventsIn (suc m) part = eventIn part ∷ eventsIn m (drop event-size part)
@@ -68,7 +68,7 @@ eventsBytes (e ∷ l) = eventBytes e ++ eventsBytes l
 abbrev pub listBytes : List Event → List ℕ
 listBytes l = headBytes (length l) ++ eventsBytes l
 
--- What lent room holds once bytes were put at a place of it: they stand there, and every other byte is as it was. Where they do not
+-- What lent room holds once bytes were put at a place of it: they are there, and every other byte is as it was. Where they do not
 -- fit, nothing is put.
 abbrev pub tooShort : ℕ → ℕ → List ℕ → Bool
 tooShort at size room = ltb (length room) (at + size)
@@ -77,7 +77,7 @@ abbrev pub put : ℕ → List ℕ → List ℕ → List ℕ
 put at new room =
     cond (tooShort at (length new) room) room (take at room ++ new ++ drop (at + length new) room)
 
--- The head stands at the front of a list, and event i behind the head and the i events before it.
+-- The head is at the front of a list, and event i comes after the head and the i events before it.
 abbrev pub event-at : ℕ → ℕ
 event-at i = head-size + event-size * i
 

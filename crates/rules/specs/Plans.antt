@@ -1,7 +1,7 @@
 -- The four plans, each as a rule for what begins in a tick. (Document 01, "The four plans")
 use Prim.Native.Nat.{ℕ, zero, suc, _+_, max}
 use mathlib.Core.Bool.{true, cond, not, _&&_}
-use mathlib.Core.List.{List, [], _∷_, map, reverse}
+use mathlib.Core.List.{List, [], _∷_, reverse}
 use lib.ListN.{length, getD, take, drop}
 use lib.Dec.{eqb, ltb, leb}
 use Rattle.rules.specs.declared.MaybeLoad.{MaybeLoad}
@@ -9,7 +9,7 @@ use Rattle.rules.specs.declared.MaybeLoad.the-variants.{Load, NoLoad}
 use Rattle.rules.specs.Basics.{place, stands}
 use Rattle.rules.specs.Job.{Job, free}
 use Rattle.rules.specs.LoadList.{last-tick}
-use Rattle.rules.specs.Display.{State, Run, Rule, Loaded, loaded, going, refused, start, idle, awaited, run}
+use Rattle.rules.specs.Display.{State, Run, Rule, Loaded, loaded, going, refused, start, loadable, idle, awaited, run}
 
 -- How far along a row of draws a symbol comes up. One that never does is further than all, and a free slot further still,
 -- so that it is taken before any held symbol.
@@ -20,9 +20,15 @@ unfoldable pub greatest : List ℕ → ℕ
 greatest [] = 0
 greatest (r ∷ l) = max r (greatest l)
 
--- The slot whose content comes up furthest along a row; the lowest such slot where several are never met again, or are free.
-abbrev pub furthest : List ℕ → List ℕ → ℕ
-furthest row slots = place (greatest (map (rank row) slots)) (map (rank row) slots)
+-- The ranks of the slots from slot q on: 0 for a slot that a load may not go into, and above 0 for every other.
+unfoldable pub ranksFrom : Job → List ℕ → ℕ → List ℕ → List ℕ
+ranksFrom job row q [] = []
+ranksFrom job row q (x ∷ slots) = cond (loadable job q) (suc (rank row x)) 0 ∷ ranksFrom job row (suc q) slots
+
+-- The slot that a plan chooses: of those that a load may go into, the one whose content comes up furthest along a row; the lowest such
+-- slot where several are never met again, or are free.
+abbrev pub furthest : Job → List ℕ → List ℕ → ℕ
+furthest job row slots = place (greatest (ranksFrom job row 0 slots)) (ranksFrom job row 0 slots)
 
 -- The row to look along. Next draws are looked for from the next draw on, so the draw of this very tick still counts.
 abbrev pub ahead : State → List ℕ
@@ -49,19 +55,19 @@ aggressiveAt p q s =
     (Load q (getD (s .rest) p 0))
     NoLoad
 
-abbrev pub aggressive : Rule
-aggressive = asking (λ s. aggressiveAt (missing (s .slots) (s .rest)) (furthest (ahead s) (s .slots)) s)
+abbrev pub aggressive : Job → Rule
+aggressive job = asking (λ s. aggressiveAt (missing (s .slots) (s .rest)) (furthest job (ahead s) (s .slots)) s)
 
 -- Plans 2 and 3 load in a tick whose draw would wait with no load under way, and only then. They differ in the slot they take.
 abbrev pub on-demand : (State → ℕ) → Rule
 on-demand slot =
     asking (λ s. cond (idle (s .loading) && not (stands (awaited s) (s .slots))) (Load (slot s) (awaited s)) NoLoad)
 
-abbrev pub opt : Rule
-opt = on-demand (λ s. furthest (ahead s) (s .slots))
+abbrev pub opt : Job → Rule
+opt job = on-demand (λ s. furthest job (ahead s) (s .slots))
 
 abbrev pub lru : Job → Rule
-lru job = on-demand (λ s. furthest (behind job s) (s .slots))
+lru job = on-demand (λ s. furthest job (behind job s) (s .slots))
 
 -- A plan is run to the last draw, or to the last tick that a list can name.
 abbrev pub runPlan : Job → Rule → Run
@@ -90,7 +96,7 @@ abbrev pub last-plan : ℕ
 last-plan = 3
 
 abbrev pub ruleOf : Job → ℕ → Rule
-ruleOf job zero = aggressive
-ruleOf job (suc zero) = conservative (begunIn (runPlan job opt))
-ruleOf job (suc (suc zero)) = opt
+ruleOf job zero = aggressive job
+ruleOf job (suc zero) = conservative (begunIn (runPlan job (opt job)))
+ruleOf job (suc (suc zero)) = opt job
 ruleOf job (suc (suc (suc n))) = lru job

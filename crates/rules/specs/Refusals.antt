@@ -9,12 +9,14 @@ use Rattle.rules.specs.declared.MaybeLoad.{MaybeLoad}
 use Rattle.rules.specs.declared.MaybeLoad.the-variants.{Load, NoLoad}
 use Rattle.rules.specs.declared.JobReading.{JobReading}
 use Rattle.rules.specs.declared.JobReading.the-variants.{Taken, Refused}
+use Rattle.rules.specs.declared.EventReading.{EventReading}
+use Rattle.rules.specs.declared.EventReading.the-variants as reading
 use Rattle.rules.specs.declared.ListReading.{ListReading}
 use Rattle.rules.specs.declared.ListReading.the-variants.{Listed, Unreadable}
 use Rattle.rules.specs.declared.Shape.{Shape}
 use Rattle.rules.specs.Basics.{stands, number32, bytes32}
 use Rattle.rules.specs.Order.{Test, test, Verdict, clear, met, firstOf}
-use Rattle.rules.specs.Job.{Job, free, most-slots, most-time, most-draws, shapeOf, startingOf, drawsOf, jobOf}
+use Rattle.rules.specs.Job.{Job, Call, free, most-slots, most-load-time, most-draws, shapeOf, startingSymbols, drawnSymbols, drawsOf, jobOf}
 use Rattle.rules.specs.LoadList.{Event, event, most-events, last-tick, head-size, event-size, countOf, eventsOf, listBytes}
 use Rattle.rules.specs.Display.{State, Run, Rule, Drawn, drawn, Loaded, loaded, going, refused, unless, then, start, finished, run}
 use Rattle.rules.specs.Plans.{last-plan, ruleOf, runPlan}
@@ -34,15 +36,15 @@ abbrev pub badLimits : Shape → Bool
 badLimits shape =
     ltb (shape .slots) 1
     || ltb most-slots (shape .slots)
-    || ltb (shape .time) 1
-    || ltb most-time (shape .time)
+    || ltb (shape .«load_time») 1
+    || ltb most-load-time (shape .«load_time»)
     || ltb most-draws (shape .draws)
 
 -- 4. A length other than 6 + 2k + 2n.
 abbrev pub badJobSize : List ℕ → Bool
 badJobSize job = not (eqb (number32 job 0) (6 + 2 * shapeOf job .slots + 2 * shapeOf job .draws))
 
--- 5. A symbol in two starting slots, or the mark of a free slot among the draws. The mark itself may stand in several slots.
+-- 5. A symbol in two starting slots, or the mark of a free slot among the draws. The mark itself may be in several slots.
 unfoldable pub doubled : List ℕ → Bool
 doubled [] = false
 doubled (x ∷ l) = not (eqb x free) && stands x l || doubled l
@@ -57,7 +59,7 @@ jobTests job =
     ∷ test 2 0 (badJobVersion job)
     ∷ test 3 0 (badLimits (shapeOf job))
     ∷ test 4 0 (badJobSize job)
-    ∷ test 5 0 (badSymbols (startingOf job) (drawsOf job))
+    ∷ test 5 0 (badSymbols (startingSymbols job) (drawnSymbols job))
     ∷ []
 
 -- A job is taken with its shape, or refused with the number of the first of these tests that holds. The detail of each is 0.
@@ -88,9 +90,15 @@ badList list =
 abbrev pub readList : List ℕ → ListReading
 readList list = cond (badList list) Unreadable (Listed (countOf list))
 
+-- Document 01's number for what reading a list found, and for what reading an event found: too few bytes for an event are met only in
+-- bytes that are no list.
 abbrev pub listNumber : ListReading → ℕ
 listNumber (Listed m) = 0
 listNumber Unreadable = 8
+
+abbrev pub eventNumber : EventReading → ℕ
+eventNumber (reading.Event t q x) = 0
+eventNumber reading.Short = 8
 
 -- 9. The first event whose tick is over the limit or not above the tick before it, or the number of events where there is none.
 -- `least` is the lowest tick that the event may have.
@@ -110,57 +118,62 @@ follow events = record { asks = λ s. due (drop (s .loads) events) (s .tick); do
 
 -- The ticks that a run along a list can take: after the last event only one load and the draws are left.
 abbrev pub mostTicks : Job → ℕ
-mostTicks job = last-tick + job .time + length (job .draws) + 1
+mostTicks job = last-tick + job .load-time + length (job .draws) + 1
 
--- 14. All draws are done and an event is left; the detail is the first one left.
+-- 14. All draws are done and an event is left; the detail is the first one left. A run whose draws are not all done by then waits for
+-- ever (13); the detail is the draw.
 abbrev pub closing : List Event → State → Run
-closing events s = cond (ltb (s .loads) (length events)) (refused 14 (s .loads)) (going s)
+closing events s =
+    let done : Run = cond (ltb (s .loads) (length events)) (refused 14 (s .loads)) (going s) in
+    cond (finished (s .rest)) done (refused 13 (s .next))
 
 abbrev pub follows : Job → List Event → Run
 follows job events = then (run job (follow events) (mostTicks job) (start job)) (closing events)
 
 -- 7. A check needs a place for each draw in both lent buffers.
-unfoldable pub shortCheck : List ℕ → ℕ → ℕ → Bool
-shortCheck job ticks slots = ltb ticks (length (drawsOf job)) || ltb slots (length (drawsOf job))
+unfoldable pub shortCheck : Call → ℕ → ℕ → Bool
+shortCheck asked ticks slots = ltb ticks (length (drawsOf asked)) || ltb slots (length (drawsOf asked))
 
 -- The order for a check before time begins: 1 to 5, then 8, 7, and 9 over the whole list, with the first event out of order.
--- It goes by the bytes of the job and the list, and by the places lent for ticks and for slots.
-abbrev pub checkTests : List ℕ → List ℕ → ℕ → ℕ → List Test
-checkTests job list ticks slots =
-    jobTests job
+-- It goes by what is asked, the bytes of the list, and the places lent for ticks and for slots.
+abbrev pub checkTests : Call → List ℕ → ℕ → ℕ → List Test
+checkTests asked list ticks slots =
+    jobTests (asked .job)
     ++ (test 8 0 (badList list)
-    ∷ test 7 0 (shortCheck job ticks slots)
+    ∷ test 7 0 (shortCheck asked ticks slots)
     ∷ test 9 (firstBadTick 0 (eventsOf list)) (ltb (firstBadTick 0 (eventsOf list)) (length (eventsOf list)))
     ∷ [])
 
 -- Where none of these holds, 10 to 14 come as time meets them.
-unfoldable pub checked : List ℕ → List ℕ → ℕ → ℕ → Run
+unfoldable pub checked : Call → List ℕ → ℕ → ℕ → Run
 unfolding firstOf jobTests shortCheck
-checked job list ticks slots = unless (firstOf (checkTests job list ticks slots)) (follows (jobOf job) (eventsOf list))
+checked asked list ticks slots =
+    unless (firstOf (checkTests asked list ticks slots)) (follows (jobOf asked) (eventsOf list))
 
 -- ---- A plan: refusals 6, 7 and 15
 
 -- 7. A plan needs room for a head and an event to each draw.
-unfoldable pub shortPlan : List ℕ → ℕ → Bool
-shortPlan job room = ltb room (head-size + event-size * length (drawsOf job))
+unfoldable pub shortPlan : Call → ℕ → Bool
+shortPlan asked room = ltb room (head-size + event-size * length (drawsOf asked))
 
 -- 15. Elapsed would pass the last tick: the plan is not done by then, or it would wait for ever.
 abbrev pub inTime : Run → Run
 inTime (going s) = cond (finished (s .rest)) (going s) (refused 15 0)
 inTime (refused number detail) = refused 15 0
 
--- The order for a plan before its run: 1 to 5, then 6, 7. It goes by the bytes of the job, the plan's number and the room lent.
-abbrev pub planTests : List ℕ → ℕ → ℕ → List Test
-planTests job plan room =
-    jobTests job
+-- The order for a plan before its run: 1 to 5, then 6, 7. It goes by what is asked, the plan's number and the room lent.
+abbrev pub planTests : Call → ℕ → ℕ → List Test
+planTests asked plan room =
+    jobTests (asked .job)
     ++ (test 6 0 (ltb last-plan plan)
-    ∷ test 7 0 (shortPlan job room)
+    ∷ test 7 0 (shortPlan asked room)
     ∷ [])
 
 -- Where none of these holds, 15 is left.
-unfoldable pub planned : List ℕ → ℕ → ℕ → Run
+unfoldable pub planned : Call → ℕ → ℕ → Run
 unfolding firstOf jobTests shortPlan
-planned job plan room = unless (firstOf (planTests job plan room)) (inTime (runPlan (jobOf job) (ruleOf (jobOf job) plan)))
+planned asked plan room =
+    unless (firstOf (planTests asked plan room)) (inTime (runPlan (jobOf asked) (ruleOf (jobOf asked) plan)))
 
 -- ---- The answer and lent memory
 
@@ -169,7 +182,7 @@ abbrev pub answerOf : Run → Answer
 answerOf (going s) = record { number = 0; detail = 0; elapsed = s .tick; waits = s .waits; loads = s .loads }
 answerOf (refused number detail) = record { number = number; detail = detail; elapsed = 0; waits = 0; loads = 0 }
 
--- What lent memory holds later: what was written stands at its front, and all behind it is as it was.
+-- What lent memory holds later: at its front what was written, and all after that as it was.
 abbrev pub lent : List ℕ → List ℕ → List ℕ
 lent written before = written ++ drop (length written) before
 
@@ -196,8 +209,8 @@ unfoldable pub tickBytes : List ℕ → List ℕ
 tickBytes [] = []
 tickBytes (t ∷ l) = bytes32 t ++ tickBytes l
 
-abbrev pub checkedForC : List ℕ → List ℕ → ℕ → ℕ → Run
-checkedForC job list ticks slots = checked job list (ticks / 4) slots
+abbrev pub checkedForC : Call → List ℕ → ℕ → ℕ → Run
+checkedForC asked list ticks slots = checked asked list (ticks / 4) slots
 
 -- A plan writes its list into the room from the first byte on.
 abbrev pub eventOf : Loaded → Event

@@ -1,10 +1,25 @@
 // The words that the rules and the code share: what reading finds, what a tick brings, what a call answers.
-// Types only. What their values mean stands in specs/, a file to each section of document 01.
+// Types and numbers only. What they mean is said in specs/, a file to each section of document 01.
+
+// The mark of a slot that holds no symbol.
+pub const FREE: u16 = 65535;
+
+// The limits of a job: its slots, the ticks of a load, its draws.
+pub const MOST_SLOTS: u8 = 64;
+
+pub const MOST_LOAD_TIME: u16 = 1000;
+
+pub const MOST_DRAWS: u16 = 4096;
+
+// The limits of a load list: its events, and the last tick that an event can name.
+pub const MOST_EVENTS: u16 = 4096;
+
+pub const LAST_TICK: u32 = 8388607;
 
 // The size of a job: its slots k, its load time F in ticks and its draws n.
 pub struct Shape {
     pub slots: u8,
-    pub time: u16,
+    pub load_time: u16,
     pub draws: u16,
 }
 
