@@ -38,7 +38,7 @@ bad-tick-within least (event t q x ∷ l) =
     let more : firstBadTick (t + 1) l ≤ length l = bad-tick-within (t + 1) l in
     by-test (ltb last-tick t || ltb t least) (λ e. rw e (omega arith)) (λ e. rw e (omega arith))
 
--- The first event of such a list, and the list behind it.
+-- The first event of such a list, and the rest of the list.
 pub ruly-first : (least t q x : ℕ) (l : List Event) → Ruly least (event t q x ∷ l) → (least ≤ t) × (t ≤ last-tick) × Ruly (t + 1) l
 unfolding firstBadTick
 ruly-first least t q x l h =
@@ -102,7 +102,7 @@ module _ (time : ℕ) (events : List Event) where
   along-begins : (tick next loads q x : ℕ) (loading : Loading) (begun : List Loaded) → 1 ≤ time → due (drop loads events) tick ≡ Load q x
       → Along time tick tick next loads events loading begun
       → Along time (tick + 1) tick next (loads + 1) events (Under (time - 1) q x) (begun ++ (loaded tick next q x ∷ []))
-  along-begins tick next loads q x loading begun some-time asks h =
+  along-begins tick next loads q x loading begun some-load-time asks h =
       let (later, first) = due-load (drop loads events) tick q x asks in
       let left : length events - loads ≡ suc (length later) = sym (length-drop loads events) ∙ ap length first in
       let behind : drop (loads + 1) events ≡ later = sym (drop-drop 1 loads events) ∙ ap (drop 1) first in
@@ -142,18 +142,18 @@ module _ (time : ℕ) (events : List Event) where
 
 -- The same of a state: between ticks as it will be once the coming tick has landed what ends in it, then within the tick.
 abbrev pub AlongBetween : Job → List Event → State → Type 0
-AlongBetween job events s = Along (job .time) (s .tick) (s .tick) (s .next) (s .loads) events (landedLoading (s .loading)) (s .begun)
+AlongBetween job events s = Along (job .load-time) (s .tick) (s .tick) (s .next) (s .loads) events (landedLoading (s .loading)) (s .begun)
 
 abbrev pub AlongLanded : Job → List Event → State → Type 0
-AlongLanded job events s = Along (job .time) (s .tick) (s .tick) (s .next) (s .loads) events (s .loading) (s .begun)
+AlongLanded job events s = Along (job .load-time) (s .tick) (s .tick) (s .next) (s .loads) events (s .loading) (s .begun)
 
 abbrev pub AlongBegun : Job → List Event → State → Type 0
-AlongBegun job events s = Along (job .time) (s .tick + 1) (s .tick) (s .next) (s .loads) events (s .loading) (s .begun)
+AlongBegun job events s = Along (job .load-time) (s .tick + 1) (s .tick) (s .next) (s .loads) events (s .loading) (s .begun)
 
 -- Every move of a run along a list keeps it so, and it is so at the start.
-pub along-moves : (job : Job) (events : List Event) → 1 ≤ job .time
+pub along-moves : (job : Job) (events : List Event) → 1 ≤ job .load-time
     → Moves job (follow events) (AlongBetween job events) (AlongLanded job events) (AlongBegun job events)
-along-moves job events some-time =
+along-moves job events some-load-time =
     record {
       lands = λ s more h. h;
       passes = λ s more a h.
@@ -164,13 +164,13 @@ along-moves job events some-time =
             in-time = h .in-time;
           };
       begins = λ q x s b h.
-          along-begins (job .time) events (s .tick) (s .next) (s .loads) q x (s .loading) (s .begun) some-time (b .asks) h;
+          along-begins (job .load-time) events (s .tick) (s .next) (s .loads) q x (s .loading) (s .begun) some-load-time (b .asks) h;
       draws = λ q s d h.
-          along-passes (job .time) events (s .tick) (s .next) (s .next + 1) (s .loads) (s .loading) (s .begun)
-          (draw-in-time (job .time) events (s .tick) (s .next) (s .loads) (s .loading) (s .begun) h) h;
+          along-passes (job .load-time) events (s .tick) (s .next) (s .next + 1) (s .loads) (s .loading) (s .begun)
+          (draw-in-time (job .load-time) events (s .tick) (s .next) (s .loads) (s .loading) (s .begun) h) h;
       waits = λ s w h.
-          along-passes (job .time) events (s .tick) (s .next) (s .next) (s .loads) (s .loading) (s .begun)
-          (wait-in-time (job .time) events (s .tick) (s .next) (s .loads) (s .loading) (s .begun) (w .hope) h) h;
+          along-passes (job .load-time) events (s .tick) (s .next) (s .next) (s .loads) (s .loading) (s .begun)
+          (wait-in-time (job .load-time) events (s .tick) (s .next) (s .loads) (s .loading) (s .begun) (w .hope) h) h;
     }
 
 module _ (job : Job) (events : List Event) (p : Proper job) (ordered : Ruly 0 events) where
@@ -179,7 +179,7 @@ module _ (job : Job) (events : List Event) (p : Proper job) (ordered : Ruly 0 ev
 
   -- A run along a list has begun the events at the front of the list, in their order, and nothing else.
   pub along : (t : ℕ) (s : State) → run job (follow events) t (start job) ≡ going s → AlongBetween job events s
-  along t s e = reached job (follow events) _ _ _ (along-moves job events (p .some-time)) t (start job) s along-start e
+  along t s e = reached job (follow events) _ _ _ (along-moves job events (p .some-load-time)) t (start job) s along-start e
 
   -- It is refused, or over, by the ticks that a check allows it.
   pub over-in-time : (s : State) → run job (follow events) (mostTicks job) (start job) ≡ going s → s .rest ≡ []

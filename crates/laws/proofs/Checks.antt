@@ -10,25 +10,25 @@ use borrow.Author.Tests.{ltb-false, le-ltb}
 use Rattle.rules.specs.declared.JobReading.the-variants.{Taken}
 use Rattle.rules.specs.declared.Shape.{Shape}
 use Rattle.rules.specs.Order.{Verdict, clear, met, firstOf}
-use Rattle.rules.specs.Job.{Job, shapeOf, drawsOf, jobOf}
+use Rattle.rules.specs.Job.{Job, Call, shapeOf, drawsOf, jobOf}
 use Rattle.rules.specs.LoadList.{Event, eventsOf}
-use Rattle.rules.specs.Display.{State, going, refused, unless, start, run}
+use Rattle.rules.specs.Display.{State, going, refused, unless, start, finished, run}
 use Rattle.rules.specs.Refusals.{jobTests, readJob, badList, shortCheck, firstBadTick, follow, mostTicks, closing, follows, checkTests, checked}
 use Rattle.laws.proofs.Cases.{by-test, neither}
 use Rattle.laws.proofs.Verdicts.{clear-of, clear-append, unless-going, step, end, gives}
-use Rattle.laws.proofs.Moves.{then-going}
+use Rattle.laws.proofs.Moves.{then-going, is-over}
 use Rattle.laws.proofs.Jobs.{Proper, proper, clear-taken, past-job}
-use Rattle.laws.proofs.Along.{Ruly, bad-tick-within, AlongBetween, along, over-in-time}
+use Rattle.laws.proofs.Along.{Ruly, bad-tick-within, AlongBetween, along}
 
 -- A check that is not refused: the job is taken, the list can be read, the lent room suffices, no event is out of order, and the run
 -- along the list is over with every event begun.
-pub record Accepted (job list : List ℕ) (ticks slots : ℕ) (s : State) : Type 0 where
-  pub job-taken : readJob job ≡ Taken (shapeOf job)
+pub record Accepted (asked : Call) (list : List ℕ) (ticks slots : ℕ) (s : State) : Type 0 where
+  pub job-taken : readJob (asked .job) ≡ Taken (shapeOf (asked .job))
   pub list-read : badList list ≡ false
-  pub tick-room : length (drawsOf job) ≤ ticks
-  pub slot-room : length (drawsOf job) ≤ slots
+  pub tick-room : length (drawsOf asked) ≤ ticks
+  pub slot-room : length (drawsOf asked) ≤ slots
   pub ordered : Ruly 0 (eventsOf list)
-  pub ran : run (jobOf job) (follow (eventsOf list)) (mostTicks (jobOf job)) (start (jobOf job)) ≡ going s
+  pub ran : run (jobOf asked) (follow (eventsOf list)) (mostTicks (jobOf asked)) (start (jobOf asked)) ≡ going s
   pub over : s .rest ≡ []
   pub all-begun : s .loads ≡ length (eventsOf list)
 
@@ -41,59 +41,62 @@ in-order events e =
 
 -- A run along a list in order that is accepted.
 followed : (job : Job) (events : List Event) → Proper job → Ruly 0 events → (s : State) → follows job events ≡ going s
-    → (run job (follow events) (mostTicks job) (start job) ≡ going s) × (s .loads ≡ length events)
+    → (run job (follow events) (mostTicks job) (start job) ≡ going s) × (s .rest ≡ []) × (s .loads ≡ length events)
 followed job events p ordered s e =
     let (last, ran, closed) = then-going (run job (follow events) (mostTicks job) (start job)) (closing events) s e in
+    by-test (finished (last .rest))
+    (λ over.
     by-test (ltb (last .loads) (length events))
-    (λ c. let g : refused 14 (last .loads) ≡ going s = rw c at closed in let z : _≡_ {A = ℕ} 0 1 = cc in absurd (omega arith))
+    (λ c. let g : refused 14 (last .loads) ≡ going s = rw (over, c) at closed in let z : _≡_ {A = ℕ} 0 1 = cc in absurd (omega arith))
     (λ c.
-    let same : last ≡ s = let z : going last ≡ going s = rw c at closed in cc in
+    let same : last ≡ s = let z : going last ≡ going s = rw (over, c) at closed in cc in
     let ran′ : run job (follow events) (mostTicks job) (start job) ≡ going s = ran ∙ ap going same in
     let a : AlongBetween job events s = along job events p ordered (mostTicks job) s ran′ in
     let all : length events ≤ s .loads = rw same at (ltb-false (last .loads) (length events) c) in
-    (ran′, omega arith))
+    (ran′, is-over (s .rest) (rw same at over), omega arith)))
+    (λ more. let g : refused 13 (last .next) ≡ going s = rw more at closed in let z : _≡_ {A = ℕ} 0 1 = cc in absurd (omega arith))
 
 -- A check is refused by the test that its order comes to, and past them all it is the run along the list.
-pub checked-met : (job list : List ℕ) (ticks slots n d : ℕ) → firstOf (checkTests job list ticks slots) ≡ met n d
-    → checked job list ticks slots ≡ refused n d
+pub checked-met : (asked : Call) (list : List ℕ) (ticks slots n d : ℕ) → firstOf (checkTests asked list ticks slots) ≡ met n d
+    → checked asked list ticks slots ≡ refused n d
 unfolding checked
-checked-met job list ticks slots n d e = ap (λ (v : Verdict). unless v (follows (jobOf job) (eventsOf list))) e
+checked-met asked list ticks slots n d e = ap (λ (v : Verdict). unless v (follows (jobOf asked) (eventsOf list))) e
 
-pub checked-past : (job list : List ℕ) (ticks slots : ℕ) → firstOf (checkTests job list ticks slots) ≡ clear
-    → checked job list ticks slots ≡ follows (jobOf job) (eventsOf list)
+pub checked-past : (asked : Call) (list : List ℕ) (ticks slots : ℕ) → firstOf (checkTests asked list ticks slots) ≡ clear
+    → checked asked list ticks slots ≡ follows (jobOf asked) (eventsOf list)
 unfolding checked
-checked-past job list ticks slots e = ap (λ (v : Verdict). unless v (follows (jobOf job) (eventsOf list))) e
+checked-past asked list ticks slots e = ap (λ (v : Verdict). unless v (follows (jobOf asked) (eventsOf list))) e
 
 -- A job that is taken, a list that can be read, places enough and events in order: past all tests.
-pub checked-follows : (job list : List ℕ) (ticks slots : ℕ) (shape : Shape) → readJob job ≡ Taken shape → badList list ≡ false
-    → length (drawsOf job) ≤ ticks → length (drawsOf job) ≤ slots → Ruly 0 (eventsOf list)
-    → checked job list ticks slots ≡ follows (jobOf job) (eventsOf list)
+pub checked-follows : (asked : Call) (list : List ℕ) (ticks slots : ℕ) (shape : Shape) → readJob (asked .job) ≡ Taken shape → badList list ≡ false
+    → length (drawsOf asked) ≤ ticks → length (drawsOf asked) ≤ slots → Ruly 0 (eventsOf list)
+    → checked asked list ticks slots ≡ follows (jobOf asked) (eventsOf list)
 unfolding shortCheck
-checked-follows job list ticks slots shape taken good tick-room slot-room ordered =
-    checked-past job list ticks slots
+checked-follows asked list ticks slots shape taken good tick-room slot-room ordered =
+    checked-past asked list ticks slots
     (gives _ _
-    (past-job job (readJob job) shape refl taken
+    (past-job (asked .job) (readJob (asked .job)) shape refl taken
     (step false (sym good) refl
-    (step false (rw (le-ltb ticks (length (drawsOf job)) tick-room, le-ltb slots (length (drawsOf job)) slot-room)) refl
+    (step false (rw (le-ltb ticks (length (drawsOf asked)) tick-room, le-ltb slots (length (drawsOf asked)) slot-room)) refl
     (step false (rw (le-ltb (firstBadTick 0 (eventsOf list)) (length (eventsOf list)) (omega arith))) refl
     end)))))
 
 -- A check that comes to a state is past its tests, and then it is the run along the list that comes to it.
-past-tests : (job list : List ℕ) (ticks slots : ℕ) (s : State) → checked job list ticks slots ≡ going s
-    → (firstOf (checkTests job list ticks slots) ≡ clear) × (follows (jobOf job) (eventsOf list) ≡ going s)
+past-tests : (asked : Call) (list : List ℕ) (ticks slots : ℕ) (s : State) → checked asked list ticks slots ≡ going s
+    → (firstOf (checkTests asked list ticks slots) ≡ clear) × (follows (jobOf asked) (eventsOf list) ≡ going s)
 unfolding checked
-past-tests job list ticks slots s e = unless-going (firstOf (checkTests job list ticks slots)) (follows (jobOf job) (eventsOf list)) s e
+past-tests asked list ticks slots s e = unless-going (firstOf (checkTests asked list ticks slots)) (follows (jobOf asked) (eventsOf list)) s e
 
 -- So it is an accepted one.
-pub accepted : (job list : List ℕ) (ticks slots : ℕ) (s : State) → checked job list ticks slots ≡ going s → Accepted job list ticks slots s
+pub accepted : (asked : Call) (list : List ℕ) (ticks slots : ℕ) (s : State) → checked asked list ticks slots ≡ going s → Accepted asked list ticks slots s
 unfolding jobTests shortCheck
-accepted job list ticks slots s e =
-    let (past, f) = past-tests job list ticks slots s e in
-    let fails = clear-of (checkTests job list ticks slots) past in
-    let reading : readJob job ≡ Taken (shapeOf job) = clear-taken job (clear-append (jobTests job) _ past .0) in
-    let p : Proper (jobOf job) = proper job (shapeOf job) reading in
+accepted asked list ticks slots s e =
+    let (past, f) = past-tests asked list ticks slots s e in
+    let fails = clear-of (checkTests asked list ticks slots) past in
+    let reading : readJob (asked .job) ≡ Taken (shapeOf (asked .job)) = clear-taken (asked .job) (clear-append (jobTests (asked .job)) _ past .0) in
+    let p : Proper (jobOf asked) = proper asked (shapeOf (asked .job)) reading in
     let ordered : Ruly 0 (eventsOf list) = in-order (eventsOf list) (fails 9) in
-    let (ran, all) = followed (jobOf job) (eventsOf list) p ordered s f in
+    let (ran, over, all) = followed (jobOf asked) (eventsOf list) p ordered s f in
     let (tick-room, slot-room) = neither _ _ (fails 7) in
     record {
       job-taken = reading;
@@ -102,6 +105,6 @@ accepted job list ticks slots s e =
       slot-room = ltb-false _ _ slot-room;
       ordered = ordered;
       ran = ran;
-      over = over-in-time (jobOf job) (eventsOf list) p ordered s ran;
+      over = over;
       all-begun = all;
     }

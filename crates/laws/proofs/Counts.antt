@@ -142,18 +142,18 @@ pub record Busy (time until tick : ℕ) (loading : Loading) (begun : List Loaded
 
 -- Between ticks the loader is as it will be once the coming tick has landed what ends in it.
 abbrev pub BusyBetween : Job → State → Type 0
-BusyBetween job s = Busy (job .time) (s .tick) (s .tick) (landedLoading (s .loading)) (s .begun)
+BusyBetween job s = Busy (job .load-time) (s .tick) (s .tick) (landedLoading (s .loading)) (s .begun)
 
 abbrev pub BusyLanded : Job → State → Type 0
-BusyLanded job s = Busy (job .time) (s .tick) (s .tick) (s .loading) (s .begun)
+BusyLanded job s = Busy (job .load-time) (s .tick) (s .tick) (s .loading) (s .begun)
 
 abbrev pub BusyBegun : Job → State → Type 0
-BusyBegun job s = Busy (job .time) (s .tick + 1) (s .tick) (s .loading) (s .begun)
+BusyBegun job s = Busy (job .load-time) (s .tick + 1) (s .tick) (s .loading) (s .begun)
 
 busy-begins : (time tick d q x : ℕ) (loading : Loading) (begun : List Loaded) → 1 ≤ time → loading ≡ Idle
     → Busy time tick tick loading begun
     → Busy time (tick + 1) tick (Under (time - 1) q x) (begun ++ (loaded tick d q x ∷ []))
-busy-begins time tick d q x loading begun some-time quiet h =
+busy-begins time tick d q x loading begun some-load-time quiet h =
     let none : ahead loading ≡ 0 = ap ahead quiet in
     let ended : Each (λ u. u + time ≤ tick) (map loadTick begun) =
     λ i m. let b : getD (map loadTick begun) i 0 + time ≤ tick + ahead loading = h .ends i m in omega arith in
@@ -197,8 +197,8 @@ busy-passes time tick (Under (suc left) q x) begun h =
     }
 
 -- Every move keeps the loader so, and it is so at the start.
-pub busy-moves : (job : Job) (rule : Rule) → 1 ≤ job .time → Moves job rule (BusyBetween job) (BusyLanded job) (BusyBegun job)
-busy-moves job rule some-time =
+pub busy-moves : (job : Job) (rule : Rule) → 1 ≤ job .load-time → Moves job rule (BusyBetween job) (BusyLanded job) (BusyBegun job)
+busy-moves job rule some-load-time =
     record {
       lands = λ s more h. h;
       passes = λ s more a h.
@@ -208,9 +208,9 @@ busy-moves job rule some-time =
             ends = h .ends;
             last = h .last;
           };
-      begins = λ q x s b h. busy-begins (job .time) (s .tick) (s .next) q x (s .loading) (s .begun) some-time (b .quiet) h;
-      draws = λ q s d h. busy-passes (job .time) (s .tick) (s .loading) (s .begun) h;
-      waits = λ s w h. busy-passes (job .time) (s .tick) (s .loading) (s .begun) h;
+      begins = λ q x s b h. busy-begins (job .load-time) (s .tick) (s .next) q x (s .loading) (s .begun) some-load-time (b .quiet) h;
+      draws = λ q s d h. busy-passes (job .load-time) (s .tick) (s .loading) (s .begun) h;
+      waits = λ s w h. busy-passes (job .load-time) (s .tick) (s .loading) (s .begun) h;
     }
 
 pub busy-start : (job : Job) → BusyBetween job (start job)
@@ -222,6 +222,6 @@ busy-start job =
       last = λ left q x e. none-under left q x e;
     }
 
--- Whatever the rule, a run from the start begins its loads at rising ticks, each at least the load time behind the one before.
+-- Whatever the rule, a run from the start begins its loads at rising ticks, each at least the load time after the one before.
 pub busy : (job : Job) (rule : Rule) → Proper job → (t : ℕ) (s : State) → run job rule t (start job) ≡ going s → BusyBetween job s
-busy job rule p t s e = reached job rule _ _ _ (busy-moves job rule (p .some-time)) t (start job) s (busy-start job) e
+busy job rule p t s e = reached job rule _ _ _ (busy-moves job rule (p .some-load-time)) t (start job) s (busy-start job) e

@@ -27,7 +27,7 @@ event-at-place (suc m) b (suc i) d h =
     let e : 7 + 7 * i ≡ 7 * suc i = omega arith in
     event-at-place m (drop 7 b) i d (omega arith) ∙ ap eventIn (drop-drop (7 * i) 7 b ∙ ap (λ (n : ℕ). drop n b) e)
 
--- What reading an event at its place in a list says: which event comes behind those before it.
+-- What reading an event at its place in a list says: which event comes after those before it.
 module _ (m i : ℕ) (list : List ℕ) (within : i < m) where
   pub event-read : (t q x : ℕ) → readEvent (drop (event-at i) list) ≡ reading.Event t q x
       → drop i (eventsIn m (drop head-size list)) ≡ event t q x ∷ drop (i + 1) (eventsIn m (drop head-size list))
@@ -48,7 +48,7 @@ module _ (m i : ℕ) (list : List ℕ) (within : i < m) where
       let z : _≡_ {A = ℕ} 0 1 = let g : reading.Event _ _ _ ≡ reading.Short = rw (le-ltb _ _ long) at e in cc in
       omega arith
 
--- The walk of refusal 9 stops at an event whose tick is over the limit or too low, and goes on behind any other.
+-- The walk of refusal 9 stops at an event whose tick is over the limit or too low, and goes on after any other.
 pub bad-tick-over : (least t q x : ℕ) (l : List Event) → last-tick < t → firstBadTick least (event t q x ∷ l) ≡ 0
 unfolding firstBadTick
 bad-tick-over least t q x l h = rw (lt-ltb last-tick t h)

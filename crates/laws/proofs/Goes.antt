@@ -1,24 +1,29 @@
 -- When a run is not refused: every load that its rule asks for may begin, and no wait is an endless one.
 use Prim.Native.Nat.{ℕ, zero, suc, _<_}
 use mathlib.Core.Path.{_≡_, refl, ap}
-use mathlib.Core.Bool.{Bool, false}
+use mathlib.Core.Bool.{Bool, false, cond}
+use mathlib.Core.List.{List}
 use lib.ListN.{length}
 use lib.Dec.{eqb}
 use Rattle.rules.specs.declared.MaybeLoad.{MaybeLoad}
 use Rattle.rules.specs.declared.MaybeLoad.the-variants.{Load, NoLoad}
 use Rattle.rules.specs.declared.Loading.{Loading}
 use Rattle.rules.specs.declared.Loading.the-variants.{Idle, Under}
-use Rattle.rules.specs.declared.Happening.the-variants.{Wait}
-use Rattle.rules.specs.Basics.{stands}
+use Rattle.rules.specs.declared.Happening.the-variants.{Draw, Wait}
+use Rattle.rules.specs.Basics.{place, stands}
 use Rattle.rules.specs.Job.{Job}
 use Rattle.rules.specs.Order.{Verdict, clear, firstOf}
-use Rattle.rules.specs.Display.{State, Rule, going, land, begin, loadTests, unless, beginning, awaited, causeOf, happeningOf, moved, stuck, happened, tick, finished, run}
+use Rattle.rules.specs.Display.{State, Rule, going, land, begin, loadTests, unless, beginning, awaited, causeOf, happeningOf, moved, stuck, happened}
+use Rattle.rules.specs.Display.{tick, finished, run}
 use Rattle.laws.proofs.Cases.{by-test}
 use Rattle.laws.proofs.Moves.{Moves, begun-kept, tick-kept, is-more}
 
-unstuck : (loading : Loading) (x : ℕ) (d : Bool) → (loading ≡ Idle → d ≡ false) → stuck (Wait (causeOf loading x)) d ≡ false
-unstuck Idle x d hope = hope refl
-unstuck (Under left q y) x d hope = by-test (eqb x y) (λ e. rw e) (λ e. rw e)
+-- A tick is an endless wait only with no load under way, the draw's symbol in no slot, and nothing to come.
+pub unstuck : (loading : Loading) (x : ℕ) (slots : List ℕ) (d : Bool) → (loading ≡ Idle → stands x slots ≡ false → d ≡ false)
+    → stuck (cond (stands x slots) (Draw (place x slots)) (Wait (causeOf loading x))) d ≡ false
+unstuck Idle x slots d h = by-test (stands x slots) (λ e. rw e) (λ e. rw e (h refl e))
+unstuck (Under left q y) x slots d h =
+    by-test (stands x slots) (λ e. rw e) (λ e. rw e (by-test (eqb x y) (λ f. rw f) (λ f. rw f)))
 
 -- What the rule must see to: a load that it asks for is not refused, and with no load under way it lets no draw wait for nothing.
 pub record Goes (job : Job) (rule : Rule) (L B : State → Type 0) : Type 0 where
@@ -35,10 +40,7 @@ module _ (job : Job) (rule : Rule) (P L B : State → Type 0) (keeps : Moves job
   happens-at-all : (s : State) → 0 < length (s .rest) → B s → (s′ : State) × (happened (happeningOf s) (rule .done s) s ≡ going s′)
   unfolding happened
   happens-at-all s more b =
-      let free : stuck (happeningOf s) (rule .done s) ≡ false =
-      by-test (stands (awaited s) (s .slots)) (λ t. rw t)
-      (λ t. rw t (unstuck (s .loading) (awaited s) (rule .done s) (λ i. goes .waits s more t i b))) in
-      (moved (happeningOf s) s, rw free)
+      (moved (happeningOf s) s, rw (unstuck (s .loading) (awaited s) (s .slots) (rule .done s) (λ i t. goes .waits s more t i b)))
 
   tick-goes : (s : State) → 0 < length (s .rest) → P s → (s′ : State) × (tick job rule s ≡ going s′)
   unfolding tick

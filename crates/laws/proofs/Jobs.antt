@@ -10,9 +10,10 @@ use Rattle.rules.specs.declared.JobReading.{JobReading}
 use Rattle.rules.specs.declared.JobReading.the-variants.{Taken, Refused}
 use Rattle.rules.specs.declared.Shape.{Shape}
 use Rattle.rules.specs.Basics.{stands, number32}
-use Rattle.rules.specs.Job.{Job, free, most-slots, most-time, most-draws, shapeOf, drawsOf, jobOf}
+use Rattle.rules.specs.Job.{Job, free, most-slots, most-load-time, most-draws, Call, shapeOf, jobOf}
 use Rattle.rules.specs.Order.{Test, Verdict, clear, met, firstOf}
 use Rattle.rules.specs.Refusals.{doubled, jobTests, readAs, readJob, jobNumber}
+use Rattle.laws.specs.Limits.{Limits}
 use Rattle.laws.proofs.Cases.{neither}
 use Rattle.laws.proofs.Verdicts.{testOf, clear-of, Each, met-by, Gives, gives, walked, past, inside}
 use Rattle.laws.proofs.Symbols.{length-symbols}
@@ -21,14 +22,14 @@ use Rattle.laws.proofs.Symbols.{length-symbols}
 pub record Proper (job : Job) : Type 0 where
   pub some-slot : 1 ≤ job .slots
   pub few-slots : job .slots ≤ most-slots
-  pub some-time : 1 ≤ job .time
-  pub little-time : job .time ≤ most-time
+  pub some-load-time : 1 ≤ job .load-time
+  pub short-load-time : job .load-time ≤ most-load-time
   pub few-draws : length (job .draws) ≤ most-draws
   pub row : length (job .starting) ≡ job .slots
   pub single : doubled (job .starting) ≡ false
   pub drawable : stands free (job .draws) ≡ false
 
--- What a reading says of the tests behind it: a shape comes with no test met, a number with the test of that number.
+-- What a reading says of its tests: a shape comes with no test met, a number with the test of that number.
 read-taken : (v : Verdict) (shape shape′ : Shape) → readAs v shape ≡ Taken shape′ → (v ≡ clear) × (shape ≡ shape′)
 read-taken clear shape shape′ e = (refl, cc)
 read-taken (met n d) shape shape′ e = let z : _≡_ {A = ℕ} 0 1 = cc in absurd (omega arith)
@@ -65,7 +66,7 @@ job-refused job n g = ap (λ (v : Verdict). readAs v (shapeOf job)) (sym (gives 
 pub job-taken : (job : List ℕ) (shape : Shape) → shape ≡ shapeOf job → Gives (jobTests job) clear → Taken shape ≡ readJob job
 job-taken job shape same g = ap Taken same ∙ ap (λ (v : Verdict). readAs v (shapeOf job)) (sym (gives _ _ g))
 
--- Once code has read the job, the tests behind those of a job are left, or a number was met.
+-- Once code has read the job, the tests after those of a job are left, or a number was met.
 pub past-job : (job : List ℕ) (reading : JobReading) (shape : Shape) {later : List Test} {v : Verdict} → reading ≡ readJob job
     → reading ≡ Taken shape → Gives later v → Gives (jobTests job ++ later) v
 past-job job reading shape is taken g = past (walked (jobTests job) clear (taken-clear job shape (sym is ∙ taken))) g
@@ -75,31 +76,44 @@ pub at-job : (job : List ℕ) (reading : JobReading) (n m : ℕ) (later : List T
 at-job job reading n m later is stops number =
     rw (number, stops) (inside later (walked (jobTests job) (met n 0) (refused-met job n (sym is ∙ stops))))
 
--- A job that is taken is a proper one.
-pub proper : (job : List ℕ) (shape : Shape) → readJob job ≡ Taken shape → Proper (jobOf job)
+-- A job that is taken keeps to the limits and has as many draws as its shape says.
+pub limits : (asked : Call) (shape : Shape) → readJob (asked .job) ≡ Taken shape → Limits asked shape
 unfolding jobTests
-proper job shape e =
-    let fails = taken-test job shape e in
-    let (l₄, draws) = neither _ _ (fails 3) in
-    let (l₃, time-high) = neither _ _ l₄ in
-    let (l₂, time-low) = neither _ _ l₃ in
-    let (slots-low, slots-high) = neither _ _ l₂ in
-    let (single, drawable) = neither _ _ (fails 5) in
-    let many : length (drawsOf job) ≡ shapeOf job .draws = length-symbols (shapeOf job .draws) _ in
+limits asked shape e =
+    let job : List ℕ = asked .job in
+    let (within, draws) = neither _ _ (taken-test job shape e 3) in
+    let (from-one, long) = neither _ _ within in
+    let (slots-within, some) = neither _ _ from-one in
+    let (none, many) = neither _ _ slots-within in
+    let same : shapeOf job ≡ shape = taken-shape job shape e in
     record {
-      some-slot = ltb-false _ _ slots-low;
-      few-slots = ltb-false _ _ slots-high;
-      some-time = ltb-false _ _ time-low;
-      little-time = ltb-false _ _ time-high;
-      few-draws = rw many (ltb-false _ _ draws);
+      shaped = sym same;
+      some-slot = rw (← same) (ltb-false _ _ none);
+      few-slots = rw (← same) (ltb-false _ _ many);
+      some-load-time = rw (← same) (ltb-false _ _ some);
+      short-load-time = rw (← same) (ltb-false _ _ long);
+      few-draws = rw (← same) (ltb-false _ _ draws);
+      many-draws = length-symbols (shapeOf job .draws) _ ∙ ap (λ (s : Shape). s .draws) same;
+    }
+
+-- So it is a proper one.
+pub proper : (asked : Call) (shape : Shape) → readJob (asked .job) ≡ Taken shape → Proper (jobOf asked)
+unfolding jobTests
+proper asked shape e =
+    let job : List ℕ = asked .job in
+    let (single, drawable) = neither _ _ (taken-test job shape e 5) in
+    let l : Limits asked shape = limits asked shape e in
+    let same : shape ≡ shapeOf job = l .shaped in
+    record {
+      some-slot = rw same at (l .some-slot);
+      few-slots = rw same at (l .few-slots);
+      some-load-time = rw same at (l .some-load-time);
+      short-load-time = rw same at (l .short-load-time);
+      few-draws = rw (l .many-draws) (l .few-draws);
       row = length-symbols (shapeOf job .slots) _;
       single = single;
       drawable = drawable;
     }
-
--- It has as many draws as its shape says.
-pub draws-many : (job : List ℕ) (shape : Shape) → readJob job ≡ Taken shape → length (drawsOf job) ≡ shape .draws
-draws-many job shape e = length-symbols (shapeOf job .draws) _ ∙ ap (λ (s : Shape). s .draws) (taken-shape job shape e)
 
 -- Its bytes are its head and two bytes to each symbol.
 pub job-size : (job : List ℕ) (shape : Shape) → readJob job ≡ Taken shape

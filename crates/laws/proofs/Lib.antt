@@ -15,3 +15,5 @@ pub mod Along
 pub mod Checks
 pub mod Events
 pub mod Goes
+pub mod Same
+pub mod Numbers

@@ -17,7 +17,8 @@ use Rattle.rules.specs.declared.Happening.the-variants.{Wait}
 use Rattle.rules.specs.Basics.{place, stands}
 use Rattle.rules.specs.Job.{Job, free}
 use Rattle.rules.specs.Order.{Verdict, clear, met, firstOf, numberIn}
-use Rattle.rules.specs.Display.{State, Run, Rule, going, refused, land, begin, idle, loadTests, loadRefusal, beginning, awaited, causeOf, happeningOf, draw, wait, stuck, moved, happened, then, tick, finished, run}
+use Rattle.rules.specs.Display.{State, Run, Rule, going, refused, land, begin, idle, loadTests, loadRefusal, beginning, awaited, causeOf, happeningOf}
+use Rattle.rules.specs.Display.{draw, wait, stuck, moved, happened, then, tick, finished, run}
 use Rattle.laws.proofs.Cases.{by-test, neither}
 use Rattle.laws.proofs.Verdicts.{clear-of, Each, met-by, unless-going, unless-refused, step, end, gives}
 
@@ -40,7 +41,7 @@ pub record Waits (rule : Rule) (s : State) : Type 0 where
   pub unheld : stands (awaited s) (s .slots) ≡ false
   pub hope : s .loading ≡ Idle → rule .done s ≡ false
 
--- A run that goes on behind another was going before it.
+-- A run that goes on after another was going before it.
 pub then-going : (r : Run) (f : State → Run) (s′ : State) → then r f ≡ going s′ → (s : State) × (r ≡ going s) × (f s ≡ going s′)
 then-going (going s) f s′ e = (s, refl, e)
 then-going (refused number detail) f s′ e = let z : _≡_ {A = ℕ} 0 1 = cc in absurd (omega arith)

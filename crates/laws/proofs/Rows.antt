@@ -1,9 +1,9 @@
 -- Rows of numbers that grow at their end, as the ticks and slots of a run do.
-use Prim.Native.Nat.{ℕ, _+_, _<_, _≤_}
+use Prim.Native.Nat.{ℕ, _+_, _<_, _≤_, suc, _-_}
 use native.Mathlib.Omega.{arith}
-use mathlib.Core.Path.{_≡_, refl, ap}
-use mathlib.Core.List.{List, [], _∷_, _++_, map}
-use lib.ListN.{length, getD, length-append, List·getD-append}
+use mathlib.Core.Path.{_≡_, refl, ap, _∙_}
+use mathlib.Core.List.{List, [], _∷_, _++_, map, reverse, reverse-cons}
+use lib.ListN.{length, getD, length-append, List·getD-append, length-reverse}
 use lib.Seq.{getD-at}
 use lib.Dec.{ltb}
 use borrow.Author.Tests.{ltb-true, ltb-false}
@@ -33,7 +33,7 @@ each-snoc P l x all new i h =
 abbrev pub Spaced : ℕ → List ℕ → Type 0
 Spaced gap l = (i j : ℕ) → i < j → j < length l → getD l i 0 + gap ≤ getD l j 0
 
--- So it is where one more stands as far above them all.
+-- So it is where one more is as far above them all.
 pub spaced-snoc : (gap : ℕ) (l : List ℕ) (x : ℕ) → Spaced gap l → Each (λ y. y + gap ≤ x) l → Spaced gap (l ++ (x ∷ []))
 spaced-snoc gap l x spaced below i j before h =
     let h′ : j < length l + 1 = rw length-snoc at h in
@@ -44,3 +44,19 @@ spaced-snoc gap l x spaced below i j before h =
     (λ t.
     let here : length l ≡ j = let far : length l ≤ j = ltb-false j (length l) t in omega arith in
     rw (getD-at l x [] 0 j here) (below i inside)))
+
+-- The number at a place of a row the other way round.
+pub getD-reverse : (l : List ℕ) (i : ℕ) → i < length l → getD (reverse l) i 0 ≡ getD l (length l - 1 - i) 0
+getD-reverse [] i h = absurd (omega arith)
+getD-reverse (x ∷ l) i h =
+    rw (reverse-cons x l)
+    (by-test (ltb i (length l))
+    (λ t.
+    let within : i < length l = ltb-true i (length l) t in
+    let inside : i < length (reverse l) = rw (length-reverse l) within in
+    let further : suc (length l) - 1 - i ≡ suc (length l - 1 - i) = omega arith in
+    rw further (List·getD-append (reverse l) (x ∷ []) 0 i inside ∙ getD-reverse l i within))
+    (λ t.
+    let last : length l ≡ i = let over : length l ≤ i = ltb-false i (length l) t in omega arith in
+    let first : suc (length l) - 1 - i ≡ 0 = omega arith in
+    rw first (getD-at (reverse l) x [] 0 i (length-reverse l ∙ last))))

@@ -1,4 +1,4 @@
--- Runs put together and taken apart: the states on the way of a run, and a finished run, which stands still.
+-- Runs put together and taken apart: the states on the way of a run, and a finished run, which does not move any more.
 use Prim.Native.Nat.{ℕ, zero, suc, _+_, _-_, _<_, _≤_}
 use native.Mathlib.Omega.{arith}
 use mathlib.Core.Path.{_≡_, refl, sym, ap, _∙_}
@@ -18,7 +18,7 @@ then-same (going s) f g h = h s
 then-same (refused number detail) f g h = refl
 
 module _ (job : Job) (rule : Rule) where
-  -- A finished display stands still.
+  -- A finished display does not move any more.
   pub run-finished : (t : ℕ) (s : State) → finished (s .rest) ≡ true → run job rule t s ≡ going s
   unfolding run
   run-finished zero s f = refl
@@ -29,7 +29,7 @@ module _ (job : Job) (rule : Rule) where
   unfolding run
   run-unfinished t s f = rw f
 
-  -- So many ticks and then so many more are one run.
+  -- Some ticks and then some more are one run.
   pub run-then : (m n : ℕ) (s : State) → run job rule (m + n) s ≡ then (run job rule m s) (run job rule n)
   unfolding run
   run-then zero n s = let e : 0 + n ≡ n = omega arith in ap (λ (t : ℕ). run job rule t s) e

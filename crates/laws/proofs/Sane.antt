@@ -1,5 +1,5 @@
 -- Every state that a run comes to is sane: the draws that remain are the job's from the next draw on, the slots are k, no symbol
--- stands in two of them, and a load under way brings a symbol that no slot holds into a slot that holds nothing.
+-- is in two of them, and a load under way brings a symbol that no slot holds into a slot that holds nothing.
 use Prim.Native.Nat.{ℕ, zero, suc, _+_, _-_, _<_, _≤_}
 use native.Mathlib.Omega.{arith}
 use mathlib.Core.Path.{_≡_, refl, sym, ap, _∙_}
@@ -20,7 +20,7 @@ use Rattle.laws.proofs.Search.{absent-at, absent-set, present}
 use Rattle.laws.proofs.Moves.{Moves, reached, Upon, upon}
 use Rattle.laws.proofs.Jobs.{Proper}
 
--- No symbol stands in two slots. Several may hold nothing.
+-- No symbol is in two slots. Several may hold nothing.
 abbrev pub Apart : List ℕ → Type 0
 Apart slots =
     (i j : ℕ) → i < length slots → j < length slots → getD slots i 0 ≡ getD slots j 0 → (getD slots i 0 ≡ free → ⊥) → i ≡ j
@@ -41,7 +41,7 @@ apart-start (x ∷ l) e (suc i) (suc j) hi hj same full =
     let (alone, later) = neither (not (eqb x free) && stands x l) (doubled l) e in
     ap suc (apart-start l later i j (omega arith) (omega arith) same full)
 
--- A slot that takes a symbol that stood in none is the only one that holds it.
+-- A slot that takes a symbol that was in none is the only one that holds it.
 only-there : (l : List ℕ) (q x i : ℕ) → stands x l ≡ false → i < length l → getD (set l q x) i 0 ≡ x → i ≡ q
 only-there l q x i nowhere h e =
     by-test (eqb i q) (eqb-true i q)
@@ -50,7 +50,7 @@ only-there l q x i nowhere h e =
 there-now : (l : List ℕ) (q x i : ℕ) → i < length l → i ≡ q → getD (set l q x) i 0 ≡ x
 there-now l q x i h e = let inside : q < length l = omega arith in rw e (getD-set-same l q x 0 inside)
 
--- It stays so where a slot takes a symbol that stood in none, and where it takes nothing.
+-- It stays so where a slot takes a symbol that was in none, and where it takes nothing.
 pub apart-set : (l : List ℕ) (q x : ℕ) → Apart l → ((x ≡ free → ⊥) → stands x l ≡ false) → Apart (set l q x)
 apart-set l q x apart new i j hi hj same full =
     let hi′ : i < length l = rw length-set at hi in
@@ -82,11 +82,11 @@ pub record Underway (job : Job) (slots : List ℕ) (left q x : ℕ) : Type 0 whe
   pub empty : getD slots q 0 ≡ free
   pub symbol : x ≡ free → ⊥
   pub nowhere : stands x slots ≡ false
-  pub soon : left < job .time
+  pub soon : left < job .load-time
 
 -- A sane state, over those of its fields that it speaks of.
 --     ahead, within    the draws that remain are the job's from the next draw on
---     row, apart       there are k slots, and no symbol stands in two of them
+--     row, apart       there are k slots, and no symbol is in two of them
 --     under            a load under way is as said above
 pub record Sane (job : Job) (next : ℕ) (rest slots : List ℕ) (loading : Loading) : Type 0 where
   pub ahead : rest ≡ drop next (job .draws)
@@ -146,11 +146,11 @@ module _ (job : Job) (next : ℕ) (rest slots : List ℕ) where
         under = λ left′ q′ x′ e. one-under (Underway job slots) left q x left′ q′ x′ v e;
       }
 
-  sane-begins : (q x : ℕ) → 1 ≤ job .time → q < job .slots → (x ≡ free → ⊥) → stands x slots ≡ false → (loading : Loading)
-      → Sane job next rest slots loading → Sane job next rest (set slots q free) (Under (job .time - 1) q x)
-  sane-begins q x some-time slot symbol nowhere loading h =
+  sane-begins : (q x : ℕ) → 1 ≤ job .load-time → q < job .slots → (x ≡ free → ⊥) → stands x slots ≡ false → (loading : Loading)
+      → Sane job next rest slots loading → Sane job next rest (set slots q free) (Under (job .load-time - 1) q x)
+  sane-begins q x some-load-time slot symbol nowhere loading h =
       let inside : q < length slots = rw (h .row) slot in
-      let u : Underway job (set slots q free) (job .time - 1) q x =
+      let u : Underway job (set slots q free) (job .load-time - 1) q x =
       record {
         slot = slot;
         empty = getD-set-same slots q free 0 inside;
@@ -163,7 +163,7 @@ module _ (job : Job) (next : ℕ) (rest slots : List ℕ) where
         within = h .within;
         row = length-set slots q free ∙ h .row;
         apart = apart-set slots q free (h .apart) (λ f. absurd (f refl));
-        under = λ left′ q′ x′ e. one-under (Underway job (set slots q free)) (job .time - 1) q x left′ q′ x′ u e;
+        under = λ left′ q′ x′ e. one-under (Underway job (set slots q free)) (job .load-time - 1) q x left′ q′ x′ u e;
       }
 
   sane-draws : (loading : Loading) → 0 < length rest → Sane job next rest slots loading → Sane job (next + 1) (drop 1 rest) slots loading
@@ -178,12 +178,12 @@ module _ (job : Job) (next : ℕ) (rest slots : List ℕ) where
       }
 
 -- Every move keeps a state sane, and the start is.
-pub sane-moves : (job : Job) (rule : Rule) → 1 ≤ job .time → Moves job rule (SaneState job) (SaneState job) (SaneState job)
-sane-moves job rule some-time =
+pub sane-moves : (job : Job) (rule : Rule) → 1 ≤ job .load-time → Moves job rule (SaneState job) (SaneState job) (SaneState job)
+sane-moves job rule some-load-time =
     record {
       lands = λ s more h. sane-lands job (s .next) (s .rest) (s .slots) (s .loading) h;
       passes = λ s more a h. h;
-      begins = λ q x s b h. sane-begins job (s .next) (s .rest) (s .slots) q x some-time (b .slot) (b .symbol) (b .nowhere) (s .loading) h;
+      begins = λ q x s b h. sane-begins job (s .next) (s .rest) (s .slots) q x some-load-time (b .slot) (b .symbol) (b .nowhere) (s .loading) h;
       draws = λ q s d h. sane-draws job (s .next) (s .rest) (s .slots) (s .loading) (d .more) h;
       waits = λ s w h. h;
     }
@@ -201,7 +201,7 @@ sane-start job p =
 -- Whatever the rule, a run from the start comes to sane states only.
 pub sane : (job : Job) (rule : Rule) → Proper job → (t : ℕ) (s : State) → run job rule t (start job) ≡ going s → SaneState job s
 sane job rule p t s e =
-    reached job rule _ _ _ (sane-moves job rule (p .some-time)) t (start job) s (sane-start job p) e
+    reached job rule _ _ _ (sane-moves job rule (p .some-load-time)) t (start job) s (sane-start job p) e
 
 -- So what else a run keeps may be shown of sane states only.
 abbrev pub SaneMoves : Job → Rule → (State → Type 0) → (State → Type 0) → (State → Type 0) → Type 0
@@ -211,10 +211,10 @@ pub reached-sanely : (job : Job) (rule : Rule) (P L B : State → Type 0) → Pr
     → (t : ℕ) (s : State) → run job rule t (start job) ≡ going s → P s
 reached-sanely job rule P L B p keeps begins t s e =
     reached job rule _ _ _
-    (upon job rule (SaneState job) (SaneState job) (SaneState job) P L B (sane-moves job rule (p .some-time)) keeps)
+    (upon job rule (SaneState job) (SaneState job) (SaneState job) P L B (sane-moves job rule (p .some-load-time)) keeps)
     t (start job) s (sane-start job p, begins) e .1
 
--- The slots with the load under way counted as landed. No symbol stands in two of them either.
+-- The slots with the load under way counted as landed. No symbol is in two of them either.
 abbrev pub settled : Loading → List ℕ → List ℕ
 settled Idle slots = slots
 settled (Under left q x) slots = set slots q x

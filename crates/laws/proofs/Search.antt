@@ -1,4 +1,4 @@
--- The one search by place: what stands at the place it finds, and that nothing before that place is what was looked for.
+-- The one search: a step of it, what is at the place it finds, and that nothing before that place is what was looked for.
 use Prim.Native.Nat.{ℕ, zero, suc, _<_, _≤_}
 use native.Mathlib.Omega.{arith}
 use mathlib.Core.Path.{_≡_, sym, _∙_}
@@ -7,9 +7,23 @@ use mathlib.Core.List.{List, [], _∷_}
 use lib.ListN.{length, getD, set, length-set}
 use lib.Seq.{getD-set-same, getD-set-other}
 use lib.Dec.{eqb}
-use borrow.Author.Tests.{ltb-true, ltb-false, lt-ltb, eqb-true, eqb-false, eq-eqb}
+use borrow.Author.Tests.{ltb-true, ltb-false, lt-ltb, eqb-true, eqb-false, eq-eqb, ne-eqb}
 use Rattle.rules.specs.Basics.{place, stands}
 use Rattle.laws.proofs.Cases.{by-test}
+
+-- It ends at the first element where it can, and goes one further where it does not end.
+pub place-cons-here : (x y : ℕ) (l : List ℕ) → x ≡ y → place x (y ∷ l) ≡ 0
+unfolding place
+place-cons-here x y l e = rw (eq-eqb x y e)
+
+pub place-cons-further : (x y : ℕ) (l : List ℕ) → (x ≡ y → ⊥) → place x (y ∷ l) ≡ suc (place x l)
+unfolding place
+place-cons-further x y l e = rw (ne-eqb x y e)
+
+-- One more element in front moves a place by at most one.
+pub place-cons-most : (x y : ℕ) (l : List ℕ) → place x (y ∷ l) ≤ suc (place x l)
+unfolding place
+place-cons-most x y l = by-test (eqb x y) (λ e. rw e (omega arith)) (λ e. rw e (omega arith))
 
 -- It finds a place, or goes to the row's end.
 pub place-within : (x : ℕ) (l : List ℕ) → place x l ≤ length l
@@ -36,14 +50,14 @@ place-first x (y ∷ l) (suc i) h e =
     let more : place x l ≤ i = place-first x l i (omega arith) e in
     by-test (eqb x y) (λ t. rw t (omega arith)) (λ t. rw t (omega arith))
 
--- What does not stand in a row is held by none of its places.
+-- What is not in a row is held by none of its places.
 pub absent-at : (x : ℕ) (l : List ℕ) → stands x l ≡ false → (i : ℕ) → i < length l → getD l i 0 ≡ x → ⊥
 absent-at x l e i h f =
     let far : length l ≤ place x l = ltb-false (place x l) (length l) e in
     let near : place x l ≤ i = place-first x l i h f in
     omega arith
 
--- What none of its places holds does not stand in it, and what one of them holds does.
+-- What none of its places holds is not in it, and what one of them holds does.
 pub absent : (x : ℕ) (l : List ℕ) → ((i : ℕ) → i < length l → getD l i 0 ≡ x → ⊥) → stands x l ≡ false
 absent x l none =
     by-test (stands x l)

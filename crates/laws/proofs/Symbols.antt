@@ -14,7 +14,7 @@ use Rattle.rules.specs.Job.{symbols, free}
 use Rattle.rules.specs.Refusals.{doubled}
 use Rattle.laws.proofs.Cases.{by-test}
 
--- The first symbol of a row, and the row behind it.
+-- The first symbol of a row, and the rest of the row.
 pub symbols-step : (n : ℕ) (b : List ℕ) → 0 < n → symbols n b ≡ number16 b 0 ∷ symbols (n - 1) (drop 2 b)
 unfolding symbols
 symbols-step zero b h = absurd (omega arith)
@@ -29,7 +29,7 @@ unfolding symbols
 length-symbols zero b = refl
 length-symbols (suc n) b = ap suc (length-symbols n (drop 2 b))
 
--- A number read behind some bytes stands that much further on in the whole.
+-- A number read after some bytes is that much further on in the whole.
 pub number16-drop : (n : ℕ) (b : List ℕ) (i : ℕ) → number16 (drop n b) i ≡ number16 b (n + i)
 number16-drop n b i = simp (getD-drop, ← add-assoc)
 
@@ -54,7 +54,7 @@ symbol-at (suc n) b (suc i) h =
     let e : 2 + 2 * i ≡ 2 * suc i = omega arith in
     symbol-at n (drop 2 b) i (omega arith) ∙ number16-drop 2 b (2 * i) ∙ ap (number16 b) e
 
--- A walk along a row whose first symbol stands at a place of the bytes.
+-- A walk along a row whose first symbol is at a place of the bytes.
 module _ (b : List ℕ) (at left : ℕ) (more : 0 < left) where
   row-step : symbols left (drop at b) ≡ number16 b at ∷ symbols (left - 1) (drop (at + 2) b)
   row-step =
@@ -69,7 +69,7 @@ module _ (b : List ℕ) (at left : ℕ) (more : 0 < left) where
   row-further x h =
       ap (stands x) row-step ∙ stands-cons x (number16 b at) _ ∙ rw (ne-eqb x (number16 b at) (λ e. h (sym e)))
 
-  -- What the first symbol of a row says of doubles: nothing where it is the mark of a free slot, or stands in the row no more.
+  -- What the first symbol of a row says of doubles: nothing where it is the mark of a free slot, or comes in the row no more.
   behind : List ℕ
   behind = symbols (left - 1) (drop (at + 2) b)
 

@@ -89,7 +89,7 @@ given-exactly tests n d single = (given tests single, gives tests)
         (λ t. let w : false ≡ true = rw t at (g .holds) in let z : _≡_ {A = ℕ} 0 1 = cc in absurd (omega arith))
         (λ t. gives later (record { holds = rw t at (g .holds); detail = rw t at (g .detail); first = rw t at (g .first) }))
 
--- ---- One order behind another
+-- ---- One order after another
 
 -- Where no test of the first holds, the second decides.
 abbrev pub otherwise : Verdict → Verdict → Verdict
@@ -110,7 +110,7 @@ clear-append tests others e = by-first (firstOf tests) refl (sym (first-append t
     by-first clear is f = (is, rw is at f)
     by-first (met n d) is f = let w : met n d ≡ clear = rw is at f in let z : _≡_ {A = ℕ} 0 1 = cc in absurd (omega arith)
 
--- A run behind two orders is behind the first of them, and in that behind the second.
+-- A run after two orders is a run after the first, and within that after the second.
 pub unless-append : (tests others : List Test) (r : Run) → unless (firstOf (tests ++ others)) r ≡ unless (firstOf tests) (unless (firstOf others) r)
 unless-append tests others r = rw first-append (by-first (firstOf tests))
   where
@@ -118,7 +118,7 @@ unless-append tests others r = rw first-append (by-first (firstOf tests))
     by-first clear = refl
     by-first (met n d) = refl
 
--- A run that goes on behind an order is past all its tests.
+-- A run that goes on after an order is past all its tests.
 pub unless-going : (v : Verdict) (r : Run) (s : State) → unless v r ≡ going s → (v ≡ clear) × (r ≡ going s)
 unless-going clear r s e = (refl, e)
 unless-going (met n d) r s e = let z : _≡_ {A = ℕ} 0 1 = cc in absurd (omega arith)
@@ -169,7 +169,7 @@ walked [] v e = rw (← e) end
 walked (test n d true ∷ later) v e = rw (← e) (stop true refl refl)
 walked (test n d false ∷ later) v e = step false refl refl (walked later v e)
 
--- One order behind another: the walk goes on past the first, or stops in it.
+-- One order after another: the walk goes on past the first, or stops in it.
 pub past : {tests others : List Test} {v : Verdict} → Gives tests clear → Gives others v → Gives (tests ++ others) v
 past end g = g
 past (step r is failed f) g = step r is failed (past f g)

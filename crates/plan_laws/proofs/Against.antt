@@ -11,13 +11,14 @@ use borrow.Author.Tests.{ltb-true, ltb-false, eqb-true, ne-eqb}
 use Rattle.rules.specs.Basics.{place, stands}
 use Rattle.rules.specs.Job.{Job, free}
 use Rattle.rules.specs.Refusals.{doubled}
+use Rattle.laws.proofs.Search.{place-cons-here, place-cons-most}
 use Rattle.laws.proofs.Cases.{by-test, neither}
-use Rattle.plan_laws.proofs.Search.{place-here, place-cons-most}
-use Rattle.plan_laws.proofs.Counting.{total, total-set, total-set-most, soon, soon-yes, soon-not, soon-place, soon-most, useful, useful-most, useful-none, same, holders, holders-found, holders-unfound, drawn-held, drawn-once, drawn-unheld}
+use Rattle.plan_laws.proofs.Counting.{total, total-set, total-set-most, soon, soon-yes, soon-not, soon-place, soon-most, useful, useful-most}
+use Rattle.plan_laws.proofs.Counting.{useful-none, same, holders, holders-found, holders-unfound, drawn-held, drawn-once, drawn-unheld}
 use Rattle.plan_laws.proofs.Choice.{choice, choice-below, choice-useful, drawn-symbol}
 use Rattle.plan_laws.proofs.Misses.{misses, misses-over, misses-hit, misses-miss}
 
--- No symbol stands in two slots.
+-- No symbol is in two slots.
 abbrev pub Once : List ℕ → Type 0
 Once slots = (x : ℕ) → (x ≡ free → ⊥) → holders x slots ≤ 1
 
@@ -47,7 +48,7 @@ once-start (y ∷ l) single x symbol =
     (λ e. rw e (omega (arith, once-start l later x symbol)))
 
 module _ (job : Job) where
-  -- Opt against a run with these draws to come, these slots and so many loads ended: opt, taken to the same draw, has made so many loads,
+  -- Opt against a run with these draws to come, these slots and a number of loads ended: opt, taken to the same draw, has made some loads,
   -- and however many draws one looks ahead, its loads and the other's useful slots are no more than the other's ended loads and its own.
   pub record Covered (whole next : ℕ) (rest slots : List ℕ) (ended : ℕ) : Type 0 where
     pub contents : List ℕ
@@ -97,9 +98,9 @@ module _ (job : Job) where
       omega (arith, before .all, before .count 0 (omega arith), useful-none (before .contents) rest)
 
   module _ (whole next x : ℕ) (rest slots : List ℕ) (ended : ℕ) (before : Covered whole next (x ∷ rest) slots ended)
-      (drawable : stands free (x ∷ rest) ≡ false) (held : stands x slots ≡ true) where
+      (drawable : stands free (x ∷ rest) ≡ false) (held : stands x slots ≡ true) (row : length slots ≡ job .slots) where
     symbol : x ≡ free → ⊥
-    symbol = drawn-symbol (x ∷ rest) x drawable (rw (place-here x x rest refl) (omega arith))
+    symbol = drawn-symbol (x ∷ rest) x drawable (rw (place-cons-here x x rest refl) (omega arith))
 
     some-hold : 0 < holders x slots
     some-hold = holders-found x slots held
@@ -157,7 +158,7 @@ module _ (job : Job) where
           let near : place z rest < j = soon-place rest j z (ltb-true 0 (soon rest j z) e) in
           let near-too : soon (x ∷ rest) (suc j) z ≡ 1 = soon-yes (x ∷ rest) (suc j) z (omega (arith, place-cons-most z x rest)) in
           let full : useful (before .contents) (x ∷ rest) (suc j) ≡ length (before .contents) =
-          choice-useful job next (x ∷ rest) (before .contents) (suc j) drawable (omega arith) (omega arith) in
+          choice-useful job next (x ∷ rest) (before .contents) (suc j) (omega (arith, before .size)) drawable (omega arith) (omega arith) in
           let size : length (before .contents) ≡ length slots = before .size in
           omega (arith, useful-most slots (x ∷ rest) (suc j), load-ahead, soon-most rest j z))
           (λ e. omega (arith, before .count (suc j) (omega arith), ltb-false 0 (soon rest j z) e))
@@ -175,9 +176,10 @@ module _ (job : Job) where
 
   -- A draw, hit or missed by opt.
   pub covered-draws : (whole next : ℕ) (rest slots : List ℕ) (ended : ℕ) → stands free rest ≡ false → 0 < length rest
-      → stands (getD rest 0 0) slots ≡ true → Covered whole next rest slots ended → Covered whole (next + 1) (drop 1 rest) slots ended
-  covered-draws whole next [] slots ended drawable more held before = absurd (omega arith)
-  covered-draws whole next (x ∷ rest) slots ended drawable more held before =
+      → stands (getD rest 0 0) slots ≡ true → length slots ≡ job .slots → Covered whole next rest slots ended
+      → Covered whole (next + 1) (drop 1 rest) slots ended
+  covered-draws whole next [] slots ended drawable more held row before = absurd (omega arith)
+  covered-draws whole next (x ∷ rest) slots ended drawable more held row before =
       by-test (stands x (before .contents))
-      (covered-hit whole next x rest slots ended before drawable held)
-      (covered-miss whole next x rest slots ended before drawable held)
+      (covered-hit whole next x rest slots ended before drawable held row)
+      (covered-miss whole next x rest slots ended before drawable held row)

@@ -30,7 +30,7 @@ module _ (job : Job) (proper : Proper job) where
   first s = missing (s .slots) (s .rest)
 
   abbrev chosen : State → ℕ
-  chosen s = furthest (ahead s) (s .slots)
+  chosen s = furthest job (ahead s) (s .slots)
 
   abbrev some-missing : State → Bool
   some-missing s = ltb (first s) (length (s .rest))
@@ -49,7 +49,7 @@ module _ (job : Job) (proper : Proper job) where
     missed : first s < length (s .rest)
     far : first s ≤ rank (ahead s) (getD (s .slots) (chosen s) 0)
 
-  asked : (s : State) (q x : ℕ) → aggressive .asks s ≡ Load q x → Asked s q x
+  asked : (s : State) (q x : ℕ) → aggressive job .asks s ≡ Load q x → Asked s q x
   asked s q x e =
       let (test, to, symbol) = asked-load (wanting s) (chosen s) (getD (s .rest) (first s) 0) q x e in
       let (early, far) = both-true (idle (s .loading) && some-missing s) (not-before s) test in
@@ -57,14 +57,14 @@ module _ (job : Job) (proper : Proper job) where
       record { to = to; symbol = symbol; quiet = quiet; missed = ltb-true _ _ missed; far = leb-true _ _ far }
 
   -- Where the draw itself is missing, what goes out cannot be drawn before it, so a load is asked for.
-  asks-at-miss : (s : State) → 0 < length (s .rest) → s .loading ≡ Idle → stands (awaited s) (s .slots) ≡ false → aggressive .asks s ≡ NoLoad → ⊥
+  asks-at-miss : (s : State) → 0 < length (s .rest) → s .loading ≡ Idle → stands (awaited s) (s .slots) ≡ false → aggressive job .asks s ≡ NoLoad → ⊥
   asks-at-miss s more quiet missed e =
       let now : first s ≡ 0 = missing-now (s .slots) (s .rest) more missed in
       let test : wanting s ≡ false = asked-none (wanting s) (chosen s) (getD (s .rest) (first s) 0) e in
       let early : (idle (s .loading) && some-missing s) ≡ true = rw (ap idle quiet) (lt-ltb (first s) (length (s .rest)) (omega arith)) in
       omega (arith, leb-false (first s) _ (other-false (idle (s .loading) && some-missing s) (not-before s) test early))
 
-  aggressive-ready : (s : State) → 0 < length (s .rest) → SaneState job s → Ready job (aggressive .asks) s
+  aggressive-ready : (s : State) → 0 < length (s .rest) → SaneState job s → Ready job (aggressive job .asks) s
   aggressive-ready s more g =
       record {
         permitted = λ q x e.
@@ -77,7 +77,7 @@ module _ (job : Job) (proper : Proper job) where
         served = λ e quiet. by-test (stands (awaited s) (s .slots)) (λ t. t) (λ t. absurd (asks-at-miss s more quiet t e));
       }
 
-  aggressive-raises : (q x : ℕ) (s : State) → Begins job aggressive q x s → SaneState job s
+  aggressive-raises : (q x : ℕ) (s : State) → Begins job (aggressive job) q x s → SaneState job s
       → missing (s .slots) (s .rest) < missing (set (s .slots) q x) (s .rest)
   aggressive-raises q x s b g =
       let a : Asked s q x = asked s q x (b .asks) in
@@ -87,7 +87,7 @@ module _ (job : Job) (proper : Proper job) where
       missing-later (s .slots) (s .rest) q x (rw (g .row) (b .slot)) (a .missed) (rw (a .to) at far) (a .symbol)
 
   -- It makes at most one load to each draw, and is done in time.
-  pub aggressive-done : Done job aggressive Rising
+  pub aggressive-done : Done job (aggressive job) Rising
   aggressive-done =
-      done job proper (aggressive .asks) Rising (rising-moves job aggressive proper aggressive-raises) (omega arith)
+      done job proper (aggressive job .asks) Rising (rising-moves job (aggressive job) proper aggressive-raises) (omega arith)
       (λ s more g h. aggressive-ready s more g) (rising-few job)

@@ -31,12 +31,12 @@ wait-used (Under left q x) h = omega arith
 pub one-more : (f l : ℕ) → f * (l + 1) ≡ f * l + f
 one-more f l = mul-add f l 1 ∙ ap (λ (n : ℕ). f * l + n) (mul-one f)
 
-module _ (job : Job) (asks : State → MaybeLoad) (some-time : 1 ≤ job .time) where
+module _ (job : Job) (asks : State → MaybeLoad) (some-load-time : 1 ≤ job .load-time) where
   abbrev Spent : State → Type 0
-  Spent s = s .waits + ahead (landedLoading (s .loading)) ≤ job .time * s .loads
+  Spent s = s .waits + ahead (landedLoading (s .loading)) ≤ job .load-time * s .loads
 
   abbrev Spending : State → Type 0
-  Spending s = s .waits + ahead (s .loading) ≤ job .time * s .loads
+  Spending s = s .waits + ahead (s .loading) ≤ job .load-time * s .loads
 
   spent-moves : Moves job (asking asks) Spent Spending Spending
   spent-moves =
@@ -45,13 +45,13 @@ module _ (job : Job) (asks : State → MaybeLoad) (some-time : 1 ≤ job .time) 
         passes = λ s more a h. h;
         begins = λ q x s b h.
             let none : ahead (s .loading) ≡ 0 = ap ahead (b .quiet) in
-            rw (one-more (job .time) (s .loads)) (omega arith);
+            rw (one-more (job .load-time) (s .loads)) (omega arith);
         draws = λ q s d h. omega (arith, tick-used (s .loading));
         waits = λ s w h. omega (arith, tick-used (s .loading), wait-used (s .loading) (w .hope));
       }
 
   -- A plan's waits are no more than F to each of its loads.
-  pub waits-few : (t : ℕ) (s : State) → run job (asking asks) t (start job) ≡ going s → s .waits ≤ job .time * s .loads
+  pub waits-few : (t : ℕ) (s : State) → run job (asking asks) t (start job) ≡ going s → s .waits ≤ job .load-time * s .loads
   waits-few t s e =
       let spent : Spent s = reached job (asking asks) Spent Spending Spending spent-moves t (start job) s (omega arith) e in
       omega arith
@@ -63,35 +63,35 @@ underOf (Under left q x) = 1
 
 module _ (job : Job) (rule : Rule) (proper : Proper job) where
   abbrev Taken : State → Type 0
-  Taken s = job .time * s .loads ≤ s .tick + ahead (landedLoading (s .loading))
+  Taken s = job .load-time * s .loads ≤ s .tick + ahead (landedLoading (s .loading))
 
   abbrev Taking : State → Type 0
-  Taking s = job .time * s .loads ≤ s .tick + ahead (s .loading)
+  Taking s = job .load-time * s .loads ≤ s .tick + ahead (s .loading)
 
   taken-moves : Moves job rule Taken Taking Taking
   taken-moves =
-      let some-time : 1 ≤ job .time = proper .some-time in
+      let some-load-time : 1 ≤ job .load-time = proper .some-load-time in
       record {
         lands = λ s more h. h;
         passes = λ s more a h. h;
         begins = λ q x s b h.
             let none : ahead (s .loading) ≡ 0 = ap ahead (b .quiet) in
-            rw (one-more (job .time) (s .loads)) (omega arith);
+            rw (one-more (job .load-time) (s .loads)) (omega arith);
         draws = λ q s d h. omega (arith, tick-used (s .loading));
         waits = λ s w h. omega (arith, tick-used (s .loading));
       }
 
-  ended-by : (loading : Loading) (tick loads ended : ℕ) → ((left q x : ℕ) → loading ≡ Under left q x → left < job .time)
-      → job .time * loads ≤ tick + ahead (landedLoading loading) → ended + underOf loading ≡ loads → job .time * ended ≤ tick
+  ended-by : (loading : Loading) (tick loads ended : ℕ) → ((left q x : ℕ) → loading ≡ Under left q x → left < job .load-time)
+      → job .load-time * loads ≤ tick + ahead (landedLoading loading) → ended + underOf loading ≡ loads → job .load-time * ended ≤ tick
   ended-by Idle tick loads ended soon h e =
       let same : loads ≡ ended = omega arith in omega (arith, rw same at h)
   ended-by (Under left q x) tick loads ended soon h e =
-      let first : job .time * (ended + 1) ≤ tick + ahead (landedLoading (Under left q x)) = rw (← e) at h in
-      omega (arith, tick-used (Under left q x), one-more (job .time) ended, soon left q x refl)
+      let first : job .load-time * (ended + 1) ≤ tick + ahead (landedLoading (Under left q x)) = rw (← e) at h in
+      omega (arith, tick-used (Under left q x), one-more (job .load-time) ended, soon left q x refl)
 
   -- Each load that has ended had F ticks of its own.
   pub ended-ticks : (t : ℕ) (s : State) → run job rule t (start job) ≡ going s → (ended : ℕ) → ended + underOf (s .loading) ≡ s .loads
-      → job .time * ended ≤ s .tick
+      → job .load-time * ended ≤ s .tick
   ended-ticks t s e ended all =
       ended-by (s .loading) (s .tick) (s .loads) ended
       (λ left q x under. sane job rule proper t s e .under left q x under .soon)

@@ -49,21 +49,21 @@ abbrev pub loadOf : Loaded → MaybeLoad
 loadOf (loaded t d q x) = Load q x
 
 -- The load asked for is the first of those still to make, and what goes out is not drawn before its miss.
-record Asked (left : List Loaded) (s : State) (q x : ℕ) : Type 0 where
-  t : ℕ
-  m : ℕ
-  later : List Loaded
-  head : left ≡ loaded t m q x ∷ later
-  quiet : idle (s .loading) ≡ true
-  enough : m ≤ s .next + place (getD (s .slots) q 0) (s .rest)
+pub record Asked (left : List Loaded) (s : State) (q x : ℕ) : Type 0 where
+  pub t : ℕ
+  pub miss : ℕ
+  pub later : List Loaded
+  pub head : left ≡ loaded t miss q x ∷ later
+  pub quiet : idle (s .loading) ≡ true
+  pub enough : miss ≤ s .next + place (getD (s .slots) q 0) (s .rest)
 
-asked : (left : List Loaded) (s : State) (q x : ℕ) → earliest left s ≡ Load q x → Asked left s q x
+pub asked : (left : List Loaded) (s : State) (q x : ℕ) → earliest left s ≡ Load q x → Asked left s q x
 asked [] s q x e = let impossible : _≡_ {A = ℕ} 0 1 = cc in absurd (omega arith)
 asked (loaded t m r y ∷ left) s q x e =
     let (test, to, symbol) = asked-load (idle (s .loading) && leb m (s .next + place (getD (s .slots) r 0) (s .rest))) r y q x e in
     let (quiet, far) = both-true (idle (s .loading)) _ test in
     let enough : m ≤ s .next + place (getD (s .slots) r 0) (s .rest) = leb-true _ _ far in
-    record { t = t; m = m; later = left; head = rw (to, symbol); quiet = quiet; enough = rw to at enough }
+    record { t = t; miss = m; later = left; head = rw (to, symbol); quiet = quiet; enough = rw to at enough }
 
 -- A load whose miss is the next draw is asked for at once.
 asked-now : (left : List Loaded) (s : State) (q x : ℕ) (later : List Miss) → map missOf left ≡ miss (s .next) q x ∷ later → s .loading ≡ Idle
@@ -79,7 +79,7 @@ asked-now (loaded t m r y ∷ left) s q x later e quiet none =
     omega arith
 
 -- All of these loads are made, slot for slot and symbol for symbol in their order, as many as opt has misses.
-pub record Whole (job : Job) (loads : List Loaded) (s : State) : Type 0 where
+pub record LoadsMade (job : Job) (loads : List Loaded) (s : State) : Type 0 where
   pub count : s .loads ≡ length (missesOf job)
   pub same : map loadOf (s .begun) ≡ map loadOf loads
 
@@ -94,19 +94,19 @@ module _ (job : Job) (proper : Proper job) (loads : List Loaded) (all : map miss
 
   -- The load asked for, seen as opt's next miss.
   first-asked : (s : State) → SaneState job s → EarlyState s → (q x : ℕ) (a : Asked (drop (s .loads) loads) s q x)
-      → First job (s .next) (s .slots) (s .rest) (a .m) q x (map missOf (a .later))
+      → First job (s .next) (s .slots) (s .rest) (a .miss) q x (map missOf (a .later))
   first-asked s g h q x a =
       let still : settled (s .loading) (s .slots) ≡ s .slots = settled-idle (s .loading) (s .slots) (a .quiet) in
       let coming : misses job (s .next) (s .slots) (s .rest) ≡ map missOf (drop (s .loads) loads) = rw still at (h .to-come) in
       let some : 0 < length (s .slots) = omega (arith, proper .some-slot, g .row) in
-      first job (s .next) (s .slots) (s .rest) (a .m) q x (map missOf (a .later)) some (coming ∙ ap (map missOf) (a .head))
+      first job (s .next) (s .slots) (s .rest) (a .miss) q x (map missOf (a .later)) some (coming ∙ ap (map missOf) (a .head))
 
   early-ready : (s : State) → 0 < length (s .rest) → SaneState job s → EarlyState s → Ready job (conservative loads .asks) s
   early-ready s more g h =
       record {
         permitted = λ q x e.
             let a : Asked (drop (s .loads) loads) s q x = asked (drop (s .loads) loads) s q x e in
-            let f : First job (s .next) (s .slots) (s .rest) (a .m) q x (map missOf (a .later)) = first-asked s g h q x a in
+            let f : First job (s .next) (s .slots) (s .rest) (a .miss) q x (map missOf (a .later)) = first-asked s g h q x a in
             let drawable : stands free (s .rest) ≡ false = rest-drawable job (s .next) (s .rest) (s .slots) (s .loading) proper g in
             load-free job q x s (a .quiet) (rw (g .row) at (f .below)) (drawn-symbol (s .rest) x drawable (f .drawn)) (f .absent);
         served = λ e quiet.
@@ -125,14 +125,14 @@ module _ (job : Job) (proper : Proper job) (loads : List Loaded) (all : map miss
         passes = λ s more a g h. h;
         begins = λ q x s b g h.
             let a : Asked (drop (s .loads) loads) s q x = asked (drop (s .loads) loads) s q x (b .asks) in
-            let f : First job (s .next) (s .slots) (s .rest) (a .m) q x (map missOf (a .later)) = first-asked s g h q x a in
-            let (front, behind, fewer) = one-further (s .loads) loads (loaded (a .t) (a .m) q x) (a .later) (a .head) in
+            let f : First job (s .next) (s .slots) (s .rest) (a .miss) q x (map missOf (a .later)) = first-asked s g h q x a in
+            let (front, behind, fewer) = one-further (s .loads) loads (loaded (a .t) (a .miss) q x) (a .later) (a .head) in
             record {
               to-come = rw (set-set, behind) (f .early (a .enough));
               upto = omega arith;
               so-far =
                   map-snoc loadOf (s .begun) (loaded (s .tick) (s .next) q x)
-                  ∙ rw (front, map-snoc loadOf (take (s .loads) loads) (loaded (a .t) (a .m) q x), h .so-far);
+                  ∙ rw (front, map-snoc loadOf (take (s .loads) loads) (loaded (a .t) (a .miss) q x), h .so-far);
             };
         draws = λ q s d g h.
             let symbol : awaited s ≡ free → ⊥ = awaited-symbol job (s .next) (s .rest) (s .slots) (s .loading) proper g (d .more) in
@@ -162,8 +162,8 @@ module _ (job : Job) (proper : Proper job) (loads : List Loaded) (all : map miss
       let left : length (drop (s .loads) loads) ≡ 0 = sym (length-map (drop (s .loads) loads) missOf) ∙ ap length none in
       omega (arith, length-drop (s .loads) loads, h .upto)
 
-  early-whole : Done job (conservative loads) (λ s. Whole job loads s)
-  early-whole =
+  early-made : Done job (conservative loads) (λ s. LoadsMade job loads s)
+  early-made =
       let d : Done job (conservative loads) EarlyState = early-done in
       let many : d .last .loads ≡ length loads = early-all (d .last) (d .over) (d .kept) in
       let every : take (d .last .loads) loads ≡ loads = take-all (d .last .loads) loads (omega arith) in
@@ -171,5 +171,5 @@ module _ (job : Job) (proper : Proper job) (loads : List Loaded) (all : map miss
       (record { count = many ∙ sym (length-map loads missOf) ∙ ap length all; same = d .kept .so-far ∙ ap (map loadOf) every })
 
 -- Conservative is never refused, is done in time, and makes exactly opt's loads.
-pub conservative-done : (job : Job) → Proper job → Done job (ruleOf job 1) (λ s. Whole job (begunIn (runPlan job opt)) s)
-conservative-done job proper = early-whole job proper (begunIn (runPlan job opt)) (opt-loads job proper)
+pub conservative-done : (job : Job) → Proper job → Done job (ruleOf job 1) (λ s. LoadsMade job (begunIn (runPlan job (opt job))) s)
+conservative-done job proper = early-made job proper (begunIn (runPlan job (opt job))) (opt-loads job proper)

@@ -9,9 +9,9 @@ use lib.ListN.{length, getD, set}
 use lib.Dec.{eqb, ltb}
 use borrow.Author.Tests.{ltb-true, ltb-false, eqb-true, eqb-false}
 use Rattle.rules.specs.Basics.{place, stands}
+use Rattle.laws.proofs.Search.{place-cons-here, place-cons-further}
 use Rattle.laws.proofs.Cases.{by-test}
 use Rattle.laws.proofs.Symbols.{stands-cons}
-use Rattle.plan_laws.proofs.Search.{place-here, place-further}
 
 -- The sum of a number for each slot.
 unfoldable pub total : (ℕ → ℕ) → List ℕ → ℕ
@@ -106,8 +106,8 @@ soon-step : (x : ℕ) (rest : List ℕ) (j y : ℕ) → soon (x ∷ rest) (suc j
 unfolding soon
 soon-step x rest j y =
     by-test (eqb x y)
-    (λ e. rw (e, place-here y x rest (sym (eqb-true x y e))) (omega arith))
-    (λ e. rw (e, place-further y x rest (λ g. eqb-false x y e (sym g))) (omega arith))
+    (λ e. rw (e, place-cons-here y x rest (sym (eqb-true x y e))) (omega arith))
+    (λ e. rw (e, place-cons-further y x rest (λ g. eqb-false x y e (sym g))) (omega arith))
 
 soon-again : (x : ℕ) (rest : List ℕ) (j y : ℕ) → soon rest j x ≡ 1 → soon (x ∷ rest) (suc j) y ≡ soon rest j y
 soon-again x rest j y h =

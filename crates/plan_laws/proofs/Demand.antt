@@ -9,7 +9,7 @@ use Rattle.rules.specs.declared.Loading.{Loading}
 use Rattle.rules.specs.declared.Loading.the-variants.{Idle, Under}
 use Rattle.rules.specs.declared.JobReading.the-variants.{Taken}
 use Rattle.rules.specs.declared.Shape.{Shape}
-use Rattle.rules.specs.Job.{Job, jobOf, drawsOf, shapeOf}
+use Rattle.rules.specs.Job.{Job, Call, jobOf, drawsOf, shapeOf}
 use Rattle.rules.specs.LoadList.{head-size, event-size, eventsOf}
 use Rattle.rules.specs.Display.{State, Rule, going, start, landedSlots, landedLoading, run}
 use Rattle.rules.specs.Refusals.{readJob, follow, mostTicks, checked, planned}
@@ -61,7 +61,7 @@ module _ (job : Job) (good : Proper job) (rule : Rule) where
               ended = h .ended;
               all = h .all;
               covers = covered-draws job _ (s .next) (s .rest) (s .slots) (h .ended)
-                  (rest-drawable job (s .next) (s .rest) (s .slots) (s .loading) good g) (d .more) (d .held) (h .covers);
+                  (rest-drawable job (s .next) (s .rest) (s .slots) (s .loading) good g) (d .more) (d .held) (g .row) (h .covers);
             };
         waits = λ s w g h. h;
       }
@@ -89,40 +89,40 @@ module _ (job : Job) (good : Proper job) (rule : Rule) (t : ℕ) (s : State) (ra
       let (ended, all, least) = ended-least job good rule t s ran over in
       let same : c .last .loads ≡ length (missesOf job) = c .kept .count in
       let fewer : c .last .loads ≤ ended = omega arith in
-      let waits : c .last .waits ≤ job .time * c .last .loads = c .brief in
+      let waits : c .last .waits ≤ job .load-time * c .last .loads = c .brief in
       let whole : c .last .tick ≡ length (job .draws) + c .last .waits = c .whole in
-      let product : job .time * c .last .loads ≤ job .time * ended = mul-le-mul-left (job .time) fewer in
-      let own : job .time * ended ≤ s .tick = ended-ticks job rule good t s ran ended all in
+      let product : job .load-time * c .last .loads ≤ job .load-time * ended = mul-le-mul-left (job .load-time) fewer in
+      let own : job .load-time * ended ≤ s .tick = ended-ticks job rule good t s ran ended all in
       let drawn : s .tick ≡ length (job .draws) + s .waits = elapsed job rule good t s ran over in
       record { loads-fewer = omega arith; loads-ended = omega arith; elapsed-twice = omega arith }
 
 -- Demand 3, over bytes: of every job, and of every list that a check of it accepts, whatever was lent, conservative is accepted with room
 -- enough, makes no more loads than the list has ended, and its elapsed is at most twice the list's.
-pub conservative-best : (job list : List ℕ) (ticks slots : ℕ) (s : State) → checked job list ticks slots ≡ going s
-    → (room : ℕ) → head-size + event-size * length (drawsOf job) ≤ room
-    → (c : State) × (planned job 1 room ≡ going c) × Better c s
-conservative-best job list ticks slots s e room enough =
-    let a : Accepted job list ticks slots s = accepted job list ticks slots s e in
-    let good : Proper (jobOf job) = proper job (shapeOf job) (a .job-taken) in
-    let d = conservative-done (jobOf job) good in (
+pub conservative-best : (asked : Call) (list : List ℕ) (ticks slots : ℕ) (s : State) → checked asked list ticks slots ≡ going s
+    → (room : ℕ) → head-size + event-size * length (drawsOf asked) ≤ room
+    → (c : State) × (planned asked 1 room ≡ going c) × Better c s
+conservative-best asked list ticks slots s e room enough =
+    let a : Accepted asked list ticks slots s = accepted asked list ticks slots s e in
+    let good : Proper (jobOf asked) = proper asked (shapeOf (asked .job)) (a .job-taken) in
+    let d = conservative-done (jobOf asked) good in (
       d .last,
-      planned-done job (shapeOf job) 1 room (a .job-taken) (omega arith) enough d,
-      conservative-better (jobOf job) good (follow (eventsOf list)) (mostTicks (jobOf job)) s (a .ran) (a .over),
+      planned-done asked (shapeOf (asked .job)) 1 room (a .job-taken) (omega arith) enough d,
+      conservative-better (jobOf asked) good (follow (eventsOf list)) (mostTicks (jobOf asked)) s (a .ran) (a .over),
     )
 
 -- Of every job that is taken, with room enough, conservative is never later than opt, and makes opt's loads in opt's order.
-pub conservative-like-opt : (job : List ℕ) (shape : Shape) (room : ℕ) → readJob job ≡ Taken shape
-    → head-size + event-size * length (drawsOf job) ≤ room
-    → (c o : State) × (planned job 1 room ≡ going c) × (planned job 2 room ≡ going o)
+pub conservative-like-opt : (asked : Call) (shape : Shape) (room : ℕ) → readJob (asked .job) ≡ Taken shape
+    → head-size + event-size * length (drawsOf asked) ≤ room
+    → (c o : State) × (planned asked 1 room ≡ going c) × (planned asked 2 room ≡ going o)
     × (c .tick ≤ o .tick) × (map loadOf (c .begun) ≡ map loadOf (o .begun))
-conservative-like-opt job shape room taken enough =
-    let good : Proper (jobOf job) = proper job shape taken in
-    let c = conservative-done (jobOf job) good in
-    let o = opt-done (jobOf job) good in (
+conservative-like-opt asked shape room taken enough =
+    let good : Proper (jobOf asked) = proper asked shape taken in
+    let c = conservative-done (jobOf asked) good in
+    let o = opt-done (jobOf asked) good in (
       c .last,
       o .last,
-      planned-done job shape 1 room taken (omega arith) enough c,
-      planned-done job shape 2 room taken (omega arith) enough o,
-      conservative-no-later (jobOf job) good .0,
+      planned-done asked shape 1 room taken (omega arith) enough c,
+      planned-done asked shape 2 room taken (omega arith) enough o,
+      conservative-no-later (jobOf asked) good .0,
       rw (o .ran) at (c .kept .same),
     )

@@ -51,7 +51,7 @@ idle-at-end (Under left q x) rest over h = absurd (omega (arith, ap length over)
 
 module _ (job : Job) (proper : Proper job) (slot : State → ℕ) where
   record Exact (waits loads ticks : ℕ) (loading : Loading) (rest : List ℕ) : Type 0 where
-    count : waits + ticks ≡ job .time * loads
+    count : waits + ticks ≡ job .load-time * loads
     awaits : Awaits loading rest
 
   abbrev Between : State → Type 0
@@ -67,9 +67,9 @@ module _ (job : Job) (proper : Proper job) (slot : State → ℕ) where
         passes = λ s more a g h. h;
         begins = λ q x s b g h.
             let none : ticks-left (s .loading) ≡ 0 = ap ticks-left (b .quiet) in
-            let some-time : 1 ≤ job .time = proper .some-time in
-            let before : s .waits + ticks-left (s .loading) ≡ job .time * s .loads = h .count in
-            record { count = rw (one-more (job .time) (s .loads)) (omega arith); awaits = (b .more, sym (demanded slot q x s (b .asks) .symbol)) };
+            let some-load-time : 1 ≤ job .load-time = proper .some-load-time in
+            let before : s .waits + ticks-left (s .loading) ≡ job .load-time * s .loads = h .count in
+            record { count = rw (one-more (job .load-time) (s .loads)) (omega arith); awaits = (b .more, sym (demanded slot q x s (b .asks) .symbol)) };
         draws = λ q s d g h.
             let quiet : s .loading ≡ Idle = idle-at-draw job (s .next) (s .rest) (s .slots) (s .loading) g (h .awaits) (d .held) in
             record {
@@ -80,7 +80,7 @@ module _ (job : Job) (proper : Proper job) (slot : State → ℕ) where
       }
 
   -- Each load on demand costs F waits.
-  pub demand-waits : (t : ℕ) (s : State) → run job (on-demand slot) t (start job) ≡ going s → s .rest ≡ [] → s .waits ≡ job .time * s .loads
+  pub demand-waits : (t : ℕ) (s : State) → run job (on-demand slot) t (start job) ≡ going s → s .rest ≡ [] → s .waits ≡ job .load-time * s .loads
   demand-waits t s e over =
       let h : Between s =
       reached-sanely job (on-demand slot) Between Within Within proper exact-moves (record { count = omega arith; awaits = tt }) t s e in
@@ -90,14 +90,14 @@ module _ (job : Job) (proper : Proper job) (slot : State → ℕ) where
 module _ (job : Job) (proper : Proper job) where
   opt-count : opt-done job proper .last .loads ≡ length (missesOf job)
   opt-count =
-      let d : Done job opt Rising = opt-done job proper in
+      let d : Done job (opt job) Rising = opt-done job proper in
       let begun : map missOf (d .last .begun) ≡ missesOf job = rw (d .ran) at (opt-loads job proper) in
       sym (d .listed) ∙ sym (length-map (d .last .begun) missOf) ∙ ap length begun
 
-  opt-waits : opt-done job proper .last .waits ≡ job .time * length (missesOf job)
+  opt-waits : opt-done job proper .last .waits ≡ job .load-time * length (missesOf job)
   opt-waits =
-      let d : Done job opt Rising = opt-done job proper in
-      demand-waits job proper (λ s. furthest (ahead s) (s .slots)) last-tick (d .last) (d .ran) (d .over) ∙ ap (λ (n : ℕ). job .time * n) opt-count
+      let d : Done job (opt job) Rising = opt-done job proper in
+      demand-waits job proper (λ s. furthest job (ahead s) (s .slots)) last-tick (d .last) (d .ran) (d .over) ∙ ap (λ (n : ℕ). job .load-time * n) opt-count
 
   -- Conservative is never later than opt, with the same number of loads.
   pub conservative-no-later : (conservative-done job proper .last .tick ≤ opt-done job proper .last .tick)
@@ -106,5 +106,5 @@ module _ (job : Job) (proper : Proper job) where
       let c = conservative-done job proper in
       let o = opt-done job proper in
       let same : c .last .loads ≡ length (missesOf job) = c .kept .count in
-      let brief : c .last .waits ≤ job .time * length (missesOf job) = rw same at (c .brief) in
+      let brief : c .last .waits ≤ job .load-time * length (missesOf job) = rw same at (c .brief) in
       (omega (arith, c .whole, o .whole, opt-waits), same ∙ sym opt-count)

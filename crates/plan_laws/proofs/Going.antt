@@ -2,27 +2,16 @@
 use Prim.Native.Nat.{ℕ}
 use native.Mathlib.Omega.{arith}
 use mathlib.Core.Path.{_≡_, refl, sym, ap, _∙_}
-use mathlib.Core.Bool.{Bool, true, false, cond}
-use mathlib.Core.List.{List}
-use lib.Dec.{eqb}
+use mathlib.Core.Bool.{true}
 use Rattle.rules.specs.declared.MaybeLoad.{MaybeLoad}
 use Rattle.rules.specs.declared.MaybeLoad.the-variants.{Load, NoLoad}
-use Rattle.rules.specs.declared.Loading.{Loading}
-use Rattle.rules.specs.declared.Loading.the-variants.{Idle, Under}
-use Rattle.rules.specs.declared.Happening.the-variants.{Draw, Wait}
-use Rattle.rules.specs.Basics.{place, stands}
+use Rattle.rules.specs.declared.Loading.the-variants.{Idle}
+use Rattle.rules.specs.Basics.{stands}
 use Rattle.rules.specs.Job.{Job}
 use Rattle.rules.specs.Order.{Verdict, clear, firstOf}
-use Rattle.rules.specs.Display.{State, going, unless, land, begin, loadTests, beginning, awaited, causeOf, happeningOf, stuck, moved, happened, then, tick}
+use Rattle.rules.specs.Display.{State, going, unless, land, begin, loadTests, beginning, awaited, happeningOf, moved, happened, then, tick}
 use Rattle.rules.specs.Plans.{asking}
-use Rattle.laws.proofs.Cases.{by-test}
-
--- A tick is an endless wait only with no load under way, the draw's symbol in no slot, and nothing to come.
-pub unstuck : (loading : Loading) (x : ℕ) (slots : List ℕ) (d : Bool) → (loading ≡ Idle → stands x slots ≡ false → d ≡ false)
-    → stuck (cond (stands x slots) (Draw (place x slots)) (Wait (causeOf loading x))) d ≡ false
-unstuck Idle x slots d h = by-test (stands x slots) (λ e. rw e) (λ e. rw e (h refl e))
-unstuck (Under left q y) x slots d h =
-    by-test (stands x slots) (λ e. rw e) (λ e. rw e (by-test (eqb x y) (λ f. rw f) (λ f. rw f)))
+use Rattle.laws.proofs.Goes.{unstuck}
 
 -- A plan that is ready in a state asks only for a load that the display takes, and for one where the draw would wait with none under way.
 pub record Ready (job : Job) (asks : State → MaybeLoad) (s : State) : Type 0 where

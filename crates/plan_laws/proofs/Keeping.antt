@@ -6,7 +6,7 @@ use mathlib.Core.Path.{_≡_, refl, _∙_}
 use mathlib.Core.List.{[], map}
 use lib.ListN.{length}
 use Rattle.rules.specs.declared.MaybeLoad.{MaybeLoad}
-use Rattle.rules.specs.Job.{Job, most-time, most-draws}
+use Rattle.rules.specs.Job.{Job, most-load-time, most-draws}
 use Rattle.rules.specs.LoadList.{last-tick}
 use Rattle.rules.specs.Display.{State, Rule, going, start, land, tick, finished, run}
 use Rattle.rules.specs.Plans.{asking, runPlan}
@@ -29,7 +29,7 @@ pub record Done (job : Job) (rule : Rule) (P : State → Type 0) : Type 0 where
   pub ran : runPlan job rule ≡ going last
   pub over : last .rest ≡ []
   pub few : last .loads ≤ length (job .draws)
-  pub brief : last .waits ≤ job .time * last .loads
+  pub brief : last .waits ≤ job .load-time * last .loads
   pub whole : last .tick ≡ length (job .draws) + last .waits
   pub listed : length (last .begun) ≡ last .loads
   pub in-order : Ruly 0 (map eventOf (last .begun))
@@ -63,7 +63,7 @@ module _ (job : Job) (proper : Proper job) (asks : State → MaybeLoad) (P : Sta
       → (s′ : State) × (tick job (asking asks) s ≡ going s′)
   next-tick t s e more =
       let here : SaneState job s = sane job (asking asks) proper t s e in
-      let landed : SaneState job (land s) = sane-moves job (asking asks) (proper .some-time) .lands s more here in
+      let landed : SaneState job (land s) = sane-moves job (asking asks) (proper .some-load-time) .lands s more here in
       goes-on job asks s (ready (land s) more landed (keeps .lands s more here (holds t s e)))
 
   one-more : (s : State) → (0 < length (s .rest) → (s′ : State) × (tick job (asking asks) s ≡ going s′))
@@ -89,12 +89,12 @@ module _ (job : Job) (proper : Proper job) (asks : State → MaybeLoad) (P : Sta
       let (s, e) = never-refused last-tick in
       let here : SaneState job s = sane job (asking asks) proper last-tick s e in
       let loads : s .loads ≤ length (job .draws) = few s here (holds last-tick s e) in
-      let brief : s .waits ≤ job .time * s .loads = waits-few job asks (proper .some-time) last-tick s e in
+      let brief : s .waits ≤ job .load-time * s .loads = waits-few job asks (proper .some-load-time) last-tick s e in
       let counts = counted job (asking asks) proper last-tick s e in
       let drawn : s .next ≤ length (job .draws) = here .within in
       let limit : length (job .draws) ≤ most-draws = proper .few-draws in
-      let product : job .time * s .loads ≤ most-time * most-draws =
-      mul-le-mul {n₂ = most-time} {m₂ = most-draws} (proper .little-time) (omega arith) in
+      let product : job .load-time * s .loads ≤ most-load-time * most-draws =
+      mul-le-mul {n₂ = most-load-time} {m₂ = most-draws} (proper .short-load-time) (omega arith) in
       let soon : s .tick < last-tick = omega (arith, counts .ticks) in
       let over : s .rest ≡ [] =
       by-test (finished (s .rest)) (is-over (s .rest))

@@ -7,8 +7,9 @@ use mathlib.Core.List.{List, [], _∷_}
 use lib.ListN.{length, getD, drop, set}
 use Rattle.rules.specs.Basics.{place, stands}
 use Rattle.rules.specs.Job.{Job}
+use Rattle.laws.proofs.Search.{place-cons-here, place-cons-further, place-cons-most}
 use Rattle.laws.proofs.Cases.{by-test}
-use Rattle.plan_laws.proofs.Search.{place-here, place-further, place-cons-most, stands-new, stands-kept}
+use Rattle.plan_laws.proofs.Search.{stands-new, stands-kept}
 use Rattle.plan_laws.proofs.Choice.{choice, choice-below}
 
 -- A draw that misses: its number, the slot taken for it, and its symbol.
@@ -52,7 +53,7 @@ module _ (job : Job) where
       (λ e. rw (misses-miss d slots x rest e) (omega (arith, misses-most (d + 1) (set slots (choice job d (x ∷ rest) slots) x) rest)))
 
   -- The first miss from d on, at m. If what its slot holds is not drawn before m, its load may as well be made at once: the misses
-  -- behind it stay the same.
+  -- after it stay the same.
   pub record First (d : ℕ) (slots rest : List ℕ) (m q x : ℕ) (later : List Miss) : Type 0 where
     pub from : d ≤ m
     pub below : q < length slots
@@ -74,7 +75,7 @@ module _ (job : Job) where
         from = omega arith;
         below = less;
         absent = missing;
-        drawn = rw (place-here y y rest refl) (omega arith);
+        drawn = rw (place-cons-here y y rest refl) (omega arith);
         early = λ soon. misses-hit d (set slots q y) y rest (stands-new slots q y less);
       }
 
@@ -87,9 +88,9 @@ module _ (job : Job) where
         absent = f .absent;
         drawn = omega (arith, place-cons-most x y rest);
         early = λ enough.
-            let other : getD slots q 0 ≡ y → ⊥ = λ e. omega (arith, place-here (getD slots q 0) y rest e) in
+            let other : getD slots q 0 ≡ y → ⊥ = λ e. omega (arith, place-cons-here (getD slots q 0) y rest e) in
             misses-hit d (set slots q x) y rest (stands-kept slots q x y hit other)
-            ∙ f .early (omega (arith, place-further (getD slots q 0) y rest other));
+            ∙ f .early (omega (arith, place-cons-further (getD slots q 0) y rest other));
       }
 
   -- The first of the misses is such a one.

@@ -69,9 +69,9 @@ module _ (job : Job) (proper : Proper job) (slot : State → ℕ) (below : (s : 
       done job proper (on-demand slot .asks) Rising demand-moves (omega arith) (λ s more g h. demand-ready s more g) (rising-few job)
 
 -- Opt takes the furthest slot along the draws to come, lru along those made. Opt is done in time.
-pub opt-done : (job : Job) → Proper job → Done job opt Rising
-opt-done job proper = demand-done job proper (λ s. furthest (ahead s) (s .slots)) (chosen-slot job proper ahead)
+pub opt-done : (job : Job) → Proper job → Done job (opt job) Rising
+opt-done job proper = demand-done job proper (λ s. furthest job (ahead s) (s .slots)) (chosen-slot job proper ahead)
 
 -- Lru is done in time.
 pub lru-done : (job : Job) → Proper job → Done job (lru job) Rising
-lru-done job proper = demand-done job proper (λ s. furthest (behind job s) (s .slots)) (chosen-slot job proper (behind job))
+lru-done job proper = demand-done job proper (λ s. furthest job (behind job s) (s .slots)) (chosen-slot job proper (behind job))

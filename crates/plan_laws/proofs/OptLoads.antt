@@ -34,13 +34,13 @@ module _ (job : Job) (proper : Proper job) where
   abbrev Worked : State → Type 0
   Worked s = map missOf (s .begun) ++ misses job (s .next) (settled (s .loading) (s .slots)) (s .rest) ≡ missesOf job
 
-  worked-moves : SaneMoves job opt Worked Worked Worked
+  worked-moves : SaneMoves job (opt job) Worked Worked Worked
   worked-moves =
       record {
         lands = λ s more g h. rw (settled-landed (s .loading) (s .slots)) h;
         passes = λ s more a g h. h;
         begins = λ q x s b g h.
-            let d : Demanded (λ s. furthest (ahead s) (s .slots)) q x s = demanded (λ s. furthest (ahead s) (s .slots)) q x s (b .asks) in
+            let d : Demanded (λ s. furthest job (ahead s) (s .slots)) q x s = demanded (λ s. furthest job (ahead s) (s .slots)) q x s (b .asks) in
             let still : settled (s .loading) (s .slots) ≡ s .slots = ap (λ (l : Loading). settled l (s .slots)) (b .quiet) in
             let some : 0 < length (s .slots) = omega (arith, proper .some-slot, g .row) in
             let before : map missOf (s .begun) ++ misses job (s .next) (s .slots) (s .rest) ≡ missesOf job = rw still at h in
@@ -56,10 +56,10 @@ module _ (job : Job) (proper : Proper job) where
       }
 
   -- The loads that opt begins are the misses of the job, each at its draw, in their order.
-  pub opt-loads : map missOf (begunIn (runPlan job opt)) ≡ missesOf job
+  pub opt-loads : map missOf (begunIn (runPlan job (opt job))) ≡ missesOf job
   opt-loads =
-      let d : Done job opt Rising = opt-done job proper in
+      let d : Done job (opt job) Rising = opt-done job proper in
       let last : State = d .last in
-      let worked : Worked last = reached-sanely job opt Worked Worked Worked proper worked-moves refl _ last (d .ran) in
+      let worked : Worked last = reached-sanely job (opt job) Worked Worked Worked proper worked-moves refl _ last (d .ran) in
       let none : misses job (last .next) (settled (last .loading) (last .slots)) (last .rest) ≡ [] = misses-over job _ _ (last .rest) (d .over) in
       rw (d .ran) (rw (none, append-nil) at worked)

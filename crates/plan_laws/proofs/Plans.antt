@@ -10,7 +10,7 @@ use Rattle.rules.specs.declared.JobReading.the-variants.{Taken}
 use Rattle.rules.specs.declared.ListReading.the-variants.{Listed, Unreadable}
 use Rattle.rules.specs.declared.Shape.{Shape}
 use Rattle.rules.specs.Order.{Verdict, clear, met, firstOf}
-use Rattle.rules.specs.Job.{Job, jobOf, drawsOf}
+use Rattle.rules.specs.Job.{Job, Call, jobOf, drawsOf}
 use Rattle.rules.specs.LoadList.{Event, most-events, head-size, event-size, listBytes}
 use Rattle.rules.specs.Display.{State, going, refused, unless}
 use Rattle.rules.specs.Plans.{last-plan, ruleOf, runPlan}
@@ -38,26 +38,26 @@ plan-done job proper (suc (suc zero)) = done-with job (ruleOf job 2) _ (opt-done
 plan-done job proper (suc (suc (suc p))) = done-with job (ruleOf job 3) _ (lru-done job proper) tt
 
 -- A plan is refused by the test that its order comes to, and past them all it is its run, in time or not.
-pub planned-met : (job : List ℕ) (p room n d : ℕ) → firstOf (planTests job p room) ≡ met n d → planned job p room ≡ refused n d
+pub planned-met : (asked : Call) (p room n d : ℕ) → firstOf (planTests asked p room) ≡ met n d → planned asked p room ≡ refused n d
 unfolding planned
-planned-met job p room n d e = ap (λ (v : Verdict). unless v (inTime (runPlan (jobOf job) (ruleOf (jobOf job) p)))) e
+planned-met asked p room n d e = ap (λ (v : Verdict). unless v (inTime (runPlan (jobOf asked) (ruleOf (jobOf asked) p)))) e
 
-pub planned-past : (job : List ℕ) (p room : ℕ) → firstOf (planTests job p room) ≡ clear
-    → planned job p room ≡ inTime (runPlan (jobOf job) (ruleOf (jobOf job) p))
+pub planned-past : (asked : Call) (p room : ℕ) → firstOf (planTests asked p room) ≡ clear
+    → planned asked p room ≡ inTime (runPlan (jobOf asked) (ruleOf (jobOf asked) p))
 unfolding planned
-planned-past job p room e = ap (λ (v : Verdict). unless v (inTime (runPlan (jobOf job) (ruleOf (jobOf job) p)))) e
+planned-past asked p room e = ap (λ (v : Verdict). unless v (inTime (runPlan (jobOf asked) (ruleOf (jobOf asked) p)))) e
 
 -- A job that is taken, a plan's number and room enough: past all tests, and the plan comes to its last state.
-pub planned-done : {P : State → Type 0} (job : List ℕ) (shape : Shape) (p room : ℕ) → readJob job ≡ Taken shape → p ≤ last-plan
-    → head-size + event-size * length (drawsOf job) ≤ room
-    → (d : Done (jobOf job) (ruleOf (jobOf job) p) P) → planned job p room ≡ going (d .last)
+pub planned-done : {P : State → Type 0} (asked : Call) (shape : Shape) (p room : ℕ) → readJob (asked .job) ≡ Taken shape → p ≤ last-plan
+    → head-size + event-size * length (drawsOf asked) ≤ room
+    → (d : Done (jobOf asked) (ruleOf (jobOf asked) p) P) → planned asked p room ≡ going (d .last)
 unfolding shortPlan
-planned-done job shape p room taken known enough d =
-    planned-past job p room
+planned-done asked shape p room taken known enough d =
+    planned-past asked p room
     (gives _ _
-    (past-job job (readJob job) shape refl taken
+    (past-job (asked .job) (readJob (asked .job)) shape refl taken
     (step false (rw (le-ltb last-plan p known)) refl
-    (step false (rw (le-ltb room (head-size + event-size * length (drawsOf job)) enough)) refl
+    (step false (rw (le-ltb room (head-size + event-size * length (drawsOf asked)) enough)) refl
     end))))
     ∙ rw (d .ran, d .over)
 
@@ -72,30 +72,30 @@ written-read l few =
     (λ t. t)
 
 -- A list in order, checked as the bytes that are written for it, with places enough.
-written-checked : (job : List ℕ) (shape : Shape) (l : List Event) (ticks slots : ℕ) → readJob job ≡ Taken shape → length l ≤ most-events
-    → length (drawsOf job) ≤ ticks → length (drawsOf job) ≤ slots → Ruly 0 l → checked job (listBytes l) ticks slots ≡ follows (jobOf job) l
-written-checked job shape l ticks slots taken few ticks-room slots-room ordered =
-    checked-follows job (listBytes l) ticks slots shape taken (written-read l few) ticks-room slots-room (rw (read-back l few .1) ordered)
-    ∙ ap (follows (jobOf job)) (read-back l few .1)
+written-checked : (asked : Call) (shape : Shape) (l : List Event) (ticks slots : ℕ) → readJob (asked .job) ≡ Taken shape → length l ≤ most-events
+    → length (drawsOf asked) ≤ ticks → length (drawsOf asked) ≤ slots → Ruly 0 l → checked asked (listBytes l) ticks slots ≡ follows (jobOf asked) l
+written-checked asked shape l ticks slots taken few ticks-room slots-room ordered =
+    checked-follows asked (listBytes l) ticks slots shape taken (written-read l few) ticks-room slots-room (rw (read-back l few .1) ordered)
+    ∙ ap (follows (jobOf asked)) (read-back l few .1)
 
 -- A plan of a job that is taken, with room enough, is accepted; and the check of the bytes that it writes, with places enough, is accepted and
 -- comes to the very same state: the same elapsed, waits and loads, and the same draws.
-pub plan-checked : (job : List ℕ) (shape : Shape) (p room ticks slots : ℕ) → readJob job ≡ Taken shape → p ≤ last-plan
-    → head-size + event-size * length (drawsOf job) ≤ room → length (drawsOf job) ≤ ticks → length (drawsOf job) ≤ slots
-    → (s : State) × (planned job p room ≡ going s) × (checked job (writtenBy (planned job p room)) ticks slots ≡ going s)
-plan-checked job shape p room ticks slots taken known enough ticks-room slots-room =
-    let good : Proper (jobOf job) = proper job shape taken in
-    let d : Done (jobOf job) (ruleOf (jobOf job) p) Any = plan-done (jobOf job) good p in
-    let accepted : planned job p room ≡ going (d .last) = planned-done job shape p room taken known enough d in
+pub plan-checked : (asked : Call) (shape : Shape) (p room ticks slots : ℕ) → readJob (asked .job) ≡ Taken shape → p ≤ last-plan
+    → head-size + event-size * length (drawsOf asked) ≤ room → length (drawsOf asked) ≤ ticks → length (drawsOf asked) ≤ slots
+    → (s : State) × (planned asked p room ≡ going s) × (checked asked (writtenBy (planned asked p room)) ticks slots ≡ going s)
+plan-checked asked shape p room ticks slots taken known enough ticks-room slots-room =
+    let good : Proper (jobOf asked) = proper asked shape taken in
+    let d : Done (jobOf asked) (ruleOf (jobOf asked) p) Any = plan-done (jobOf asked) good p in
+    let accepted : planned asked p room ≡ going (d .last) = planned-done asked shape p room taken known enough d in
     let events : List Event = map eventOf (d .last .begun) in
     let few : length events ≤ most-events =
     omega (arith, length-map (d .last .begun) eventOf, d .listed, d .few, good .few-draws) in
-    (d .last, accepted, rw accepted (written-checked job shape events ticks slots taken few ticks-room slots-room (d .in-order) ∙ d .replays))
+    (d .last, accepted, rw accepted (written-checked asked shape events ticks slots taken few ticks-room slots-room (d .in-order) ∙ d .replays))
 
 -- So a check of what a plan wrote answers what the plan answered.
-pub plan-answers : (job : List ℕ) (shape : Shape) (p room ticks slots : ℕ) → readJob job ≡ Taken shape → p ≤ last-plan
-    → head-size + event-size * length (drawsOf job) ≤ room → length (drawsOf job) ≤ ticks → length (drawsOf job) ≤ slots
-    → answerOf (checked job (writtenBy (planned job p room)) ticks slots) ≡ answerOf (planned job p room)
-plan-answers job shape p room ticks slots taken known enough ticks-room slots-room =
-    let (s, accepted, again) = plan-checked job shape p room ticks slots taken known enough ticks-room slots-room in
+pub plan-answers : (asked : Call) (shape : Shape) (p room ticks slots : ℕ) → readJob (asked .job) ≡ Taken shape → p ≤ last-plan
+    → head-size + event-size * length (drawsOf asked) ≤ room → length (drawsOf asked) ≤ ticks → length (drawsOf asked) ≤ slots
+    → answerOf (checked asked (writtenBy (planned asked p room)) ticks slots) ≡ answerOf (planned asked p room)
+plan-answers asked shape p room ticks slots taken known enough ticks-room slots-room =
+    let (s, accepted, again) = plan-checked asked shape p room ticks slots taken known enough ticks-room slots-room in
     rw again (rw accepted)

@@ -16,13 +16,14 @@ use Rattle.rules.specs.declared.Loading.the-variants.{Idle, Under}
 use Rattle.rules.specs.Basics.{stands}
 use Rattle.rules.specs.Job.{Job}
 use Rattle.rules.specs.LoadList.{Event, event, last-tick}
-use Rattle.rules.specs.Display.{State, Run, Rule, going, refused, start, landedSlots, landedLoading, land, beginning, awaited, happeningOf, wait, moved, happened, then, tick, finished, run}
+use Rattle.rules.specs.Display.{State, Run, Rule, going, refused, start, landedSlots, landedLoading, land, beginning, awaited, happeningOf, wait}
+use Rattle.rules.specs.Display.{moved, happened, then, tick, finished, run}
 use Rattle.rules.specs.Refusals.{firstBadTick, due, follow, mostTicks, follows, eventOf}
 use Rattle.laws.proofs.Cases.{by-test}
 use Rattle.laws.proofs.Moves.{Moves, reached, then-going, beginning-going, happened-going, tick-kept, is-more}
 use Rattle.laws.proofs.Runs.{run-finished, run-unfinished, run-longer, tick-ticks}
 use Rattle.laws.proofs.Along.{Ruly}
-use Rattle.plan_laws.proofs.Going.{unstuck}
+use Rattle.laws.proofs.Goes.{unstuck}
 
 -- Events whose ticks rise strictly, from a tick on and before another.
 pub data Ordered : ℕ → ℕ → List Event → Type 0 where
@@ -237,7 +238,8 @@ module _ (job : Job) (rule : Rule) where
         let all : length Events ≡ length (last .begun) = length-map (last .begun) eventOf in
         let longer : run job (follow Events) (mostTicks job) (start job) ≡ going last =
         run-longer job (follow Events) t (mostTicks job) (start job) last enough (r .same) (ap finished over) in
-        rw (longer, le-ltb (last .loads) (length Events) (omega arith))
+        let done : finished (last .rest) ≡ true = ap finished over in
+        rw (longer, done, le-ltb (last .loads) (length Events) (omega arith))
 
     -- Its ticks rise strictly, so where the run was over in time it is in order.
     pub in-order : last .tick ≤ last-tick + 1 → Ruly 0 Events

@@ -12,12 +12,13 @@ use Rattle.rules.specs.Basics.{place, stands}
 use Rattle.rules.specs.Job.{Job, free}
 use Rattle.rules.specs.Display.{State, Rule, awaited}
 use Rattle.rules.specs.Plans.{missing}
+use Rattle.laws.proofs.Search.{place-cons-here, place-cons-further}
 use Rattle.laws.proofs.Cases.{by-test}
 use Rattle.laws.proofs.Moves.{Begins}
 use Rattle.laws.proofs.Jobs.{Proper}
 use Rattle.laws.proofs.Sane.{SaneState, SaneMoves, settled, awaited-symbol, remaining}
 use Rattle.plan_laws.proofs.States.{settled-landed, settled-holds}
-use Rattle.plan_laws.proofs.Search.{place-here, place-further, stands-new, stands-kept}
+use Rattle.plan_laws.proofs.Search.{stands-new, stands-kept}
 
 -- The first missing draw, a draw at a time.
 missing-hit : (slots : List ℕ) (x : ℕ) (rest : List ℕ) → stands x slots ≡ true → missing slots (x ∷ rest) ≡ suc (missing slots rest)
@@ -66,16 +67,16 @@ missing-later slots (y ∷ rest) q x h less far symbol =
     by-test (stands y slots)
     (λ e.
     let further : missing slots (y ∷ rest) ≡ suc (missing slots rest) = missing-hit slots y rest e in
-    let other : getD slots q 0 ≡ y → ⊥ = λ same. omega (arith, place-here (getD slots q 0) y rest same) in
+    let other : getD slots q 0 ≡ y → ⊥ = λ same. omega (arith, place-cons-here (getD slots q 0) y rest same) in
     let later : missing slots rest < missing (set slots q x) rest =
-    missing-later slots rest q x h (omega arith) (omega (arith, place-further (getD slots q 0) y rest other)) (rw further at symbol) in
+    missing-later slots rest q x h (omega arith) (omega (arith, place-cons-further (getD slots q 0) y rest other)) (rw further at symbol) in
     omega (arith, missing-hit (set slots q x) y rest (stands-kept slots q x y e other)))
     (λ e.
     let now : missing slots (y ∷ rest) ≡ 0 = missing-miss slots y rest e in
     let same : y ≡ x = rw now at symbol in
     omega (arith, missing-hit (set slots q x) y rest (rw same (stands-new slots q x h))))
 
--- So many loads, and the first missing draw is not before the draw of that number.
+-- This many loads, and the first missing draw is not before the draw of that number.
 abbrev pub Rising : State → Type 0
 Rising s = s .loads ≤ s .next + missing (settled (s .loading) (s .slots)) (s .rest)
 

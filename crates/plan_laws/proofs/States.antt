@@ -28,8 +28,8 @@ rest-drawable job next rest slots loading proper g =
     absent-at free (job .draws) (proper .drawable) (next + i) (omega arith) (sym there ∙ e))
 
 -- The furthest slot along any row is one of the job's.
-pub chosen-slot : (job : Job) → Proper job → (row : State → List ℕ) (s : State) → SaneState job s → furthest (row s) (s .slots) < job .slots
-chosen-slot job proper row s g = rw (g .row) at (chosen-below (row s) (s .slots) (omega (arith, proper .some-slot, g .row)))
+pub chosen-slot : (job : Job) → Proper job → (row : State → List ℕ) (s : State) → SaneState job s → furthest job (row s) (s .slots) < job .slots
+chosen-slot job proper row s g = rw (g .row) at (chosen-below job (row s) (s .slots) (omega (arith, proper .some-slot, g .row)))
 
 -- A load that lands was counted as landed before.
 pub settled-landed : (loading : Loading) (slots : List ℕ) → settled (landedLoading loading) (landedSlots loading slots) ≡ settled loading slots
@@ -37,7 +37,7 @@ settled-landed Idle slots = refl
 settled-landed (Under zero q x) slots = refl
 settled-landed (Under (suc left) q x) slots = refl
 
--- A symbol that a slot holds stands among them too.
+-- A symbol that a slot holds is among them too.
 pub settled-holds : (job : Job) (next : ℕ) (rest slots : List ℕ) (loading : Loading) (x : ℕ) → Sane job next rest slots loading → (x ≡ free → ⊥)
     → stands x slots ≡ true → stands x (settled loading slots) ≡ true
 settled-holds job next rest slots Idle x h symbol held = held

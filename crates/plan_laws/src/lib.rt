@@ -1,1 +1,2 @@
-// Theorems about the four plans: what each keeps, what it loads, and how it stands against any list. There is no code here: they stand in proofs/.
+// Theorems about the four plans: what each keeps, what it loads, and how it compares with any list. No code.
+// What holds of every rule belongs into laws; what a publisher relies on belongs into demands.
