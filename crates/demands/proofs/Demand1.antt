@@ -9,7 +9,7 @@ use lib.ListN.{length}
 use borrow.Author.Tests.{ltb-false}
 use Rattle.rules.specs.declared.JobReading.the-variants.{Taken}
 use Rattle.rules.specs.Order.{clear, firstOf}
-use Rattle.rules.specs.Job.{shapeOf, drawsOf, jobOf}
+use Rattle.rules.specs.Job.{Call, shapeOf, drawsOf, jobOf}
 use Rattle.rules.specs.LoadList.{head-size, event-size}
 use Rattle.rules.specs.Display.{State, Run, going, refused}
 use Rattle.rules.specs.Plans.{last-plan}
@@ -25,78 +25,78 @@ use Rattle.demands.proofs.Refusing.{Answers, refusal-is, answers-so, pl
 -- ---- The table, exactly
 
 -- A plan answers a refusal's number and detail exactly when that row of the table holds and no row above it does.
-pub plan-refusals : (job : List ℕ) (plan room n d : ℕ) → (n ≡ 0 → ⊥)
-    → Answers (planned job plan room) n d ↔ Gives (planRows job plan room) n d
-plan-refusals job plan room n d some = (
-  λ a. met-gives _ _ n d (plan-words job plan room) (plan-found job plan room n d (refusal-is (planned job plan room) n d some a)),
-  λ g. answers-so (planned job plan room) n d (plan-is-tests job plan room ∙ rw (gives-met _ _ n d (plan-words job plan room) g)),
+pub plan-refusals : (asked : Call) (plan room n d : ℕ) → (n ≡ 0 → ⊥)
+    → Answers (planned asked plan room) n d ↔ Gives (planRows asked plan room) n d
+plan-refusals asked plan room n d some = (
+  λ a. met-gives _ _ n d (plan-words asked plan room) (plan-found asked plan room n d (refusal-is (planned asked plan room) n d some a)),
+  λ g. answers-so (planned asked plan room) n d (plan-is-tests asked plan room ∙ rw (gives-met _ _ n d (plan-words asked plan room) g)),
 )
 
 -- A check answers a refusal's number and detail exactly when the table gives them: 1 to 5, 8, 7 and 9 at once, 10 to 13 as time meets
 -- them, 14 at the end.
-pub check-refusals : (job list : List ℕ) (ticks slots n d : ℕ) → (n ≡ 0 → ⊥)
-    → Answers (checked job list ticks slots) n d ↔ Given job list ticks slots n d
-check-refusals job list ticks slots n d some = (
-  λ a. check-given job list ticks slots n d (refusal-is (checked job list ticks slots) n d some a),
-  λ g. answers-so (checked job list ticks slots) n d (given-check job list ticks slots n d g),
+pub check-refusals : (asked : Call) (list : List ℕ) (ticks slots n d : ℕ) → (n ≡ 0 → ⊥)
+    → Answers (checked asked list ticks slots) n d ↔ Given asked list ticks slots n d
+check-refusals asked list ticks slots n d some = (
+  λ a. check-given asked list ticks slots n d (refusal-is (checked asked list ticks slots) n d some a),
+  λ g. answers-so (checked asked list ticks slots) n d (given-check asked list ticks slots n d g),
 )
 
 -- Every plan answers: with number 0 and detail 0, or with what its table gives.
-pub plan-always : (job : List ℕ) (plan room : ℕ)
-    → Answers (planned job plan room) 0 0
-    ⊎ ((n d : ℕ) × Answers (planned job plan room) n d × Gives (planRows job plan room) n d)
-plan-always job plan room = by-run (planned job plan room) refl
+pub plan-always : (asked : Call) (plan room : ℕ)
+    → Answers (planned asked plan room) 0 0
+    ⊎ ((n d : ℕ) × Answers (planned asked plan room) n d × Gives (planRows asked plan room) n d)
+plan-always asked plan room = by-run (planned asked plan room) refl
   where
-    by-run : (r : Run) → planned job plan room ≡ r → Answers r 0 0 ⊎ ((n d : ℕ) × Answers r n d × Gives (planRows job plan room) n d)
+    by-run : (r : Run) → planned asked plan room ≡ r → Answers r 0 0 ⊎ ((n d : ℕ) × Answers r n d × Gives (planRows asked plan room) n d)
     by-run (going s) e = inl (refl, refl)
-    by-run (refused n d) e = inr (n, d, (refl, refl), met-gives _ _ n d (plan-words job plan room) (plan-found job plan room n d e))
+    by-run (refused n d) e = inr (n, d, (refl, refl), met-gives _ _ n d (plan-words asked plan room) (plan-found asked plan room n d e))
 
 -- Every check answers: with number 0 and detail 0, or with what the table gives.
-pub check-always : (job list : List ℕ) (ticks slots : ℕ)
-    → Answers (checked job list ticks slots) 0 0
-    ⊎ ((n d : ℕ) × Answers (checked job list ticks slots) n d × Given job list ticks slots n d)
-check-always job list ticks slots = by-run (checked job list ticks slots) refl
+pub check-always : (asked : Call) (list : List ℕ) (ticks slots : ℕ)
+    → Answers (checked asked list ticks slots) 0 0
+    ⊎ ((n d : ℕ) × Answers (checked asked list ticks slots) n d × Given asked list ticks slots n d)
+check-always asked list ticks slots = by-run (checked asked list ticks slots) refl
   where
-    by-run : (r : Run) → checked job list ticks slots ≡ r → Answers r 0 0 ⊎ ((n d : ℕ) × Answers r n d × Given job list ticks slots n d)
+    by-run : (r : Run) → checked asked list ticks slots ≡ r → Answers r 0 0 ⊎ ((n d : ℕ) × Answers r n d × Given asked list ticks slots n d)
     by-run (going s) e = inl (refl, refl)
-    by-run (refused n d) e = inr (n, d, (refl, refl), check-given job list ticks slots n d e)
+    by-run (refused n d) e = inr (n, d, (refl, refl), check-given asked list ticks slots n d e)
 
 -- Refusal 15 is never given: every plan of a job that is taken is over long before the last tick that a list can name.
-pub plan-never-late : (job : List ℕ) (plan room : ℕ) → answerOf (planned job plan room) .number ≡ 15 → ⊥
-plan-never-late job plan room e =
-    never-late job plan room (answerOf (planned job plan room) .detail)
-    (plan-found job plan room 15 _ (refusal-is (planned job plan room) 15 _ (λ z. omega arith) (e, refl)))
+pub plan-never-late : (asked : Call) (plan room : ℕ) → answerOf (planned asked plan room) .number ≡ 15 → ⊥
+plan-never-late asked plan room e =
+    never-late asked plan room (answerOf (planned asked plan room) .detail)
+    (plan-found asked plan room 15 _ (refusal-is (planned asked plan room) 15 _ (λ z. omega arith) (e, refl)))
 
 -- A plan answers 0 exactly when its job is accepted, its number is one of the four and room is lent.
-pub plan-accepts : (job : List ℕ) (plan room : ℕ)
-    → (answerOf (planned job plan room) .number ≡ 0)
-    ↔ ((readJob job ≡ Taken (shapeOf job)) × (plan ≤ last-plan) × (head-size + event-size * length (drawsOf job) ≤ room))
+pub plan-accepts : (asked : Call) (plan room : ℕ)
+    → (answerOf (planned asked plan room) .number ≡ 0)
+    ↔ ((readJob (asked .job) ≡ Taken (shapeOf (asked .job))) × (plan ≤ last-plan) × (head-size + event-size * length (drawsOf asked) ≤ room))
 unfolding jobTests shortPlan
-plan-accepts job plan room = (
+plan-accepts asked plan room = (
   λ e.
-      let (s, ran) = plan-goes job plan room e in
-      by-tests (unless-going (firstOf (lateTests job plan room)) _ s (sym (plan-is-tests job plan room) ∙ ran) .0),
+      let (s, ran) = plan-goes asked plan room e in
+      by-tests (unless-going (firstOf (lateTests asked plan room)) _ s (sym (plan-is-tests asked plan room) ∙ ran) .0),
   λ h.
       let (taken, known, enough) = h in
-      let d = plan-done (jobOf job) (proper job _ taken) plan in
-      rw (planned-done job (shapeOf job) plan room taken known enough d),
+      let d = plan-done (jobOf asked) (proper asked _ taken) plan in
+      rw (planned-done asked (shapeOf (asked .job)) plan room taken known enough d),
 )
   where
-    by-tests : firstOf (lateTests job plan room) ≡ clear
-        → (readJob job ≡ Taken (shapeOf job)) × (plan ≤ last-plan) × (head-size + event-size * length (drawsOf job) ≤ room)
+    by-tests : firstOf (lateTests asked plan room) ≡ clear
+        → (readJob (asked .job) ≡ Taken (shapeOf (asked .job))) × (plan ≤ last-plan) × (head-size + event-size * length (drawsOf asked) ≤ room)
     by-tests past =
-        let fails = clear-of (lateTests job plan room) past in
-        (clear-taken job (clear-append (jobTests job) _ past .0), ltb-false _ _ (fails 6), ltb-false _ _ (fails 7))
+        let fails = clear-of (lateTests asked plan room) past in
+        (clear-taken (asked .job) (clear-append (jobTests (asked .job)) _ past .0), ltb-false _ _ (fails 6), ltb-false _ _ (fails 7))
 
 -- ---- A full answer, or a refusal and nothing else
 
--- What a call answers and leaves behind.
+-- What a call answers, and what it leaves in lent memory.
 --     accepted    number 0 comes with detail 0
 --     counts      a refusal brings no elapsed, no waits and no loads
 --     room        a refused plan leaves the room as it was
 --     ticks       a refused check leaves the buffer for ticks as it was, whether it holds ticks or, for a host in C, their bytes
 --     slots       and the buffer for slots
-pub record Whole (r : Run) : Type 0 where
+pub record FullOrRefused (r : Run) : Type 0 where
   pub accepted : answerOf r .number ≡ 0 → answerOf r .detail ≡ 0
   pub counts : (answerOf r .number ≡ 0 → ⊥) → (answerOf r .elapsed ≡ 0) × (answerOf r .waits ≡ 0) × (answerOf r .loads ≡ 0)
   pub room : (answerOf r .number ≡ 0 → ⊥) → (before : List ℕ) → lent (writtenBy r) before ≡ before
@@ -105,7 +105,7 @@ pub record Whole (r : Run) : Type 0 where
   pub slots : (answerOf r .number ≡ 0 → ⊥) → (before : List ℕ) → lent (slotsOf r) before ≡ before
 
 -- So it is with every run whose number 0 is no refusal's.
-whole : (r : Run) → (answerOf r .number ≡ 0 → (s : State) × (r ≡ going s)) → Whole r
+whole : (r : Run) → (answerOf r .number ≡ 0 → (s : State) × (r ≡ going s)) → FullOrRefused r
 unfolding tickBytes
 whole (going s) goes =
     record {
@@ -125,9 +125,9 @@ whole (refused n d) goes =
     }
 
 -- Of every row of bytes, every plan's number and every room, a plan answers in full or is refused and leaves the room as it was.
-pub plan-whole : (job : List ℕ) (plan room : ℕ) → Whole (planned job plan room)
-plan-whole job plan room = whole (planned job plan room) (plan-goes job plan room)
+pub plan-full-or-refused : (asked : Call) (plan room : ℕ) → FullOrRefused (planned asked plan room)
+plan-full-or-refused asked plan room = whole (planned asked plan room) (plan-goes asked plan room)
 
 -- Of every two rows of bytes and every number of places, a check answers in full or is refused and leaves both buffers as they were.
-pub check-whole : (job list : List ℕ) (ticks slots : ℕ) → Whole (checked job list ticks slots)
-check-whole job list ticks slots = whole (checked job list ticks slots) (check-goes job list ticks slots)
+pub check-full-or-refused : (asked : Call) (list : List ℕ) (ticks slots : ℕ) → FullOrRefused (checked asked list ticks slots)
+check-full-or-refused asked list ticks slots = whole (checked asked list ticks slots) (check-goes asked list ticks slots)

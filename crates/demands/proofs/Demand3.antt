@@ -5,7 +5,7 @@ use mathlib.Core.Path.{_≡_, refl}
 use mathlib.Core.List.{List}
 use lib.ListN.{length}
 use Rattle.rules.specs.declared.Answer.{Answer}
-use Rattle.rules.specs.Job.{drawsOf}
+use Rattle.rules.specs.Job.{Call, drawsOf}
 use Rattle.rules.specs.LoadList.{head-size, event-size}
 use Rattle.rules.specs.Refusals.{checked, planned, answerOf}
 use Rattle.laws.proofs.Checks.{accepted}
@@ -20,11 +20,11 @@ pub record NoWorse (plan list : Answer) : Type 0 where
 
 -- Of every job and every list that a check accepts, conservative with room lent is accepted, makes no more loads than the list, and
 -- takes at most twice the list's ticks.
-pub conservative-no-worse : (job list : List ℕ) (ticks slots room : ℕ)
-    → answerOf (checked job list ticks slots) .number ≡ 0
-    → head-size + event-size * length (drawsOf job) ≤ room
-    → NoWorse (answerOf (planned job 1 room)) (answerOf (checked job list ticks slots))
-conservative-no-worse job list ticks slots room list-accepted enough =
-    let (s, followed) = check-goes job list ticks slots list-accepted in
-    let (c, ran, better) = conservative-best job list ticks slots s followed room enough in
+pub conservative-no-worse : (asked : Call) (list : List ℕ) (ticks slots room : ℕ)
+    → answerOf (checked asked list ticks slots) .number ≡ 0
+    → head-size + event-size * length (drawsOf asked) ≤ room
+    → NoWorse (answerOf (planned asked 1 room)) (answerOf (checked asked list ticks slots))
+conservative-no-worse asked list ticks slots room list-accepted enough =
+    let (s, followed) = check-goes asked list ticks slots list-accepted in
+    let (c, ran, better) = conservative-best asked list ticks slots s followed room enough in
     rw (ran, followed) (record { accepted = refl; loads = better .loads-fewer; elapsed = better .elapsed-twice })

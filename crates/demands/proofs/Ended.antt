@@ -19,7 +19,7 @@ use Rattle.plan_laws.proofs.Plans.{Any}
 use Rattle.demands.specs.Held.{endedBy}
 use Rattle.demands.proofs.Exactly.{last-tick-begun}
 
--- Loads that all end before a tick are counted, whatever comes behind them.
+-- Loads that all end before a tick are counted, whatever comes after them.
 all-ended : (time end : ℕ) (begun more : List Loaded) → Each (λ u. u + time < end) (map loadTick begun)
     → length begun ≤ endedBy time end (map eventOf (begun ++ more))
 unfolding endedBy
@@ -49,7 +49,7 @@ ended-now time tick (Under left q x) begun h =
 
 -- The same between ticks.
 abbrev EndedState : Job → State → Type 0
-EndedState job s = length (s .begun) ≤ endedBy (job .time) (s .tick) (map eventOf (s .begun)) + underOf (s .loading)
+EndedState job s = length (s .begun) ≤ endedBy (job .load-time) (s .tick) (map eventOf (s .begun)) + underOf (s .loading)
 
 -- Every tick of a run brings it about.
 ended-moves : (job : Job) (rule : Rule)
@@ -59,15 +59,15 @@ ended-moves job rule =
       lands = λ s more g h. tt;
       passes = λ s more a g h. tt;
       begins = λ q x s b g h. tt;
-      draws = λ q s d g h. ended-now (job .time) (s .tick) (s .loading) (s .begun) g;
-      waits = λ s w g h. ended-now (job .time) (s .tick) (s .loading) (s .begun) g;
+      draws = λ q s d g h. ended-now (job .load-time) (s .tick) (s .loading) (s .begun) g;
+      waits = λ s w g h. ended-now (job .load-time) (s .tick) (s .loading) (s .begun) g;
     }
 
 -- Every load that a run has begun has ended, but for the one under way.
 pub ended-but-one : (job : Job) (rule : Rule) → Proper job → (t : ℕ) (s : State) → run job rule t (start job) ≡ going s
-    → s .loads ≤ endedBy (job .time) (s .tick) (map eventOf (s .begun)) + underOf (s .loading)
+    → s .loads ≤ endedBy (job .load-time) (s .tick) (map eventOf (s .begun)) + underOf (s .loading)
 ended-but-one job rule good t s ran =
     let all : length (s .begun) ≡ s .loads = counted job rule good t s ran .begun-all in
-    let moves = upon job rule _ _ _ _ _ _ (busy-moves job rule (good .some-time)) (ended-moves job rule) in
+    let moves = upon job rule _ _ _ _ _ _ (busy-moves job rule (good .some-load-time)) (ended-moves job rule) in
     let ended : EndedState job s = reached job rule _ _ _ moves t (start job) s (busy-start job, omega arith) ran .1 in
     omega arith

@@ -78,7 +78,7 @@ begins-now job events q x s b g =
     let size : length (map loadTick (s .begun)) ≡ length (s .begun) = length-map (s .begun) loadTick in
     record {
       idle = λ j h.
-          let e : getD (map loadTick (s .begun)) j 0 + job .time ≤ s .tick + ahead (s .loading) = busy .ends j (omega arith) in
+          let e : getD (map loadTick (s .begun)) j 0 + job .load-time ≤ s .tick + ahead (s .loading) = busy .ends j (omega arith) in
           rw (is, tick-begun a j h) (omega arith);
       slot = rw is (b .slot);
       symbol = rw is (b .symbol);
@@ -109,10 +109,10 @@ fair-moves job events =
       waits = λ s w g h. h;
     }
 
--- Each event that a run along a list has begun may begin where it stands in the list, on a sheet that is over at the run's tick.
+-- Each event that a run along a list has begun may begin at its place in the list, on a sheet that is over at the run's tick.
 pub fair : (job : Job) (events : List Event) → Proper job → Ruly 0 events → (t : ℕ) (s : State)
     → run job (follow events) t (start job) ≡ going s → (i : ℕ) → i < s .loads → MayBegin job events i (s .tick)
 fair job events p ordered t s e =
     reached job (follow events) _ _ _
-    (upon job (follow events) _ _ _ _ _ _ (holding-moves job events (p .some-time)) (fair-moves job events))
+    (upon job (follow events) _ _ _ _ _ _ (holding-moves job events (p .some-load-time)) (fair-moves job events))
     t (start job) s (holding-start job events p ordered, λ i h. absurd (omega arith)) e .1

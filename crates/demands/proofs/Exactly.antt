@@ -13,10 +13,10 @@ use Rattle.rules.specs.declared.MaybeLoad.the-variants.{Load}
 use Rattle.rules.specs.declared.Loading.the-variants.{Idle}
 use Rattle.rules.specs.declared.ListReading.the-variants.{Listed, Unreadable}
 use Rattle.rules.specs.Basics.{stands}
-use Rattle.rules.specs.Job.{Job, jobOf}
+use Rattle.rules.specs.Job.{Call, Job, jobOf}
 use Rattle.rules.specs.LoadList.{Event, event, countOf, eventsOf}
 use Rattle.rules.specs.Order.{clear, firstOf}
-use Rattle.rules.specs.Display.{State, Loaded, going, start, idle, awaited, loadTests, run}
+use Rattle.rules.specs.Display.{State, Loaded, going, start, idle, awaited, loadTests, finished, run}
 use Rattle.rules.specs.Refusals.{follow, due, eventOf, tickOf, slotOf, ticksOf, slotsOf, answerOf, mostTicks, follows, readList, badList, checked}
 use Rattle.laws.proofs.Cases.{by-test}
 use Rattle.laws.proofs.Rows.{Each, map-snoc, length-snoc}
@@ -52,13 +52,13 @@ module _ (job : Job) (events : List Event) (end : ℕ) (may : (i : ℕ) → i < 
       idle-if-none (s .loading)
       (λ rest r y e.
       let a : AlongLanded job events s = g .0 .1 in
-      let l : Last (job .time) (s .tick + rest + 1) r y (s .begun) = g .0 .0 .1 .last rest r y e in
+      let l : Last (job .load-time) (s .tick + rest + 1) r y (s .begun) = g .0 .0 .1 .last rest r y e in
       let (at, size) = last-tick-begun _ _ _ _ _ l in
       let many : length (s .begun) ≡ s .loads = as-many a in
       let inside : length (l .before) < s .loads = omega arith in
       let when : eventTick (eventAt events (length (l .before))) ≡ l .tick = tick-begun a (length (l .before)) inside ∙ at in
       let now : eventTick (eventAt events (s .loads)) ≡ s .tick = ap eventTick (event-due events (s .loads) (s .tick) q x asks) in
-      let ended : eventTick (eventAt events (length (l .before))) + job .time ≤ eventTick (eventAt events (s .loads)) =
+      let ended : eventTick (eventAt events (length (l .before))) + job .load-time ≤ eventTick (eventAt events (s .loads)) =
       may (s .loads) left .idle (length (l .before)) inside in
       omega arith)
 
@@ -97,8 +97,8 @@ all-stay job events s quiet done g t q later =
     let all : map eventOf (s .begun) ≡ events = a .so-far ∙ take-all (s .loads) events done in
     let split : s .tick + (t - s .tick) ≡ t = omega arith in
     let stay : held job (map eventOf (s .begun)) (s .tick + (t - s .tick)) q ≡ held job (map eventOf (s .begun)) (s .tick) q =
-    stays-long (getD (job .starting) q 0) (job .time) (s .tick) q (s .begun) (t - s .tick)
-    (λ i m. let b : getD (map loadTick (s .begun)) i 0 + job .time ≤ s .tick + ahead (s .loading) = busy .ends i m in omega arith) in
+    stays-long (getD (job .starting) q 0) (job .load-time) (s .tick) q (s .begun) (t - s .tick)
+    (λ i m. let b : getD (map loadTick (s .begun)) i 0 + job .load-time ≤ s .tick + ahead (s .loading) = busy .ends i m in omega arith) in
     rw (all, split) at stay
 
 -- A list on whose sheet every draw is made lets no draw wait for nothing: with all events begun and no load under way the slots stay as
@@ -140,7 +140,7 @@ module _ (job : Job) (events : List Event) (p : Proper job) (ordered : Ruly 0 ev
     (may : (i : ℕ) → i < length events → MayBegin job events i (answer .elapsed)) where
   runs : (t : ℕ) → (s : State) × (run job (follow events) t (start job) ≡ going s)
   runs t =
-      run-goes job (follow events) _ _ _ (witnessing-moves job events (p .some-time))
+      run-goes job (follow events) _ _ _ (witnessing-moves job events (p .some-load-time))
       (record {
         loads = λ q x s more asks h. load-goes job events (answer .elapsed) may q x s asks (h .0);
         waits = λ s more unheld quiet h. wait-goes job events ticks slots answer sheet s more unheld quiet h;
@@ -174,25 +174,25 @@ module _ (job : Job) (events : List Event) (p : Proper job) (ordered : Ruly 0 ev
   follows-goes =
       let (s, ran) = runs (mostTicks job) in
       let over : s .rest ≡ [] = over-in-time job events p ordered s ran in
-      (s, rw (ran, none-left (mostTicks job) s ran over))
+      (s, rw (ran, ap finished over, none-left (mostTicks job) s ran over))
 
 -- What an accepted check reports is right by the list alone.
-pub accepted-is-right : (job list : List ℕ) (tick-places slot-places : ℕ) (s : State) → checked job list tick-places slot-places ≡ going s
-    → Right job list tick-places slot-places
-    (ticksOf (checked job list tick-places slot-places))
-    (slotsOf (checked job list tick-places slot-places))
-    (answerOf (checked job list tick-places slot-places))
-accepted-is-right job list tick-places slot-places s e =
-    let a : Accepted job list tick-places slot-places s = accepted job list tick-places slot-places s e in
-    let p : Proper (jobOf job) = proper job _ (a .job-taken) in
-    let sheet = sheet-right job list tick-places slot-places s e in
+pub accepted-is-right : (asked : Call) (list : List ℕ) (tick-places slot-places : ℕ) (s : State) → checked asked list tick-places slot-places ≡ going s
+    → Right asked list tick-places slot-places
+    (ticksOf (checked asked list tick-places slot-places))
+    (slotsOf (checked asked list tick-places slot-places))
+    (answerOf (checked asked list tick-places slot-places))
+accepted-is-right asked list tick-places slot-places s e =
+    let a : Accepted asked list tick-places slot-places s = accepted asked list tick-places slot-places s e in
+    let p : Proper (jobOf asked) = proper asked _ (a .job-taken) in
+    let sheet = sheet-right asked list tick-places slot-places s e in
     record {
       job-taken = a .job-taken;
       list-read = rw (a .list-read);
       tick-room = a .tick-room;
       slot-room = a .slot-room;
       in-order = a .ordered;
-      may-begin = λ i h. rw e (fair (jobOf job) (eventsOf list) p (a .ordered) (mostTicks (jobOf job)) s (a .ran) i (rw (a .all-begun) h));
+      may-begin = λ i h. rw e (fair (jobOf asked) (eventsOf list) p (a .ordered) (mostTicks (jobOf asked)) s (a .ran) i (rw (a .all-begun) h));
       sheet = sheet;
       number = rw e;
       detail = rw e;
@@ -206,26 +206,26 @@ readable list e =
     (λ t. t)
 
 -- Where a sheet is right by the list alone, the check accepts the list.
-pub right-is-accepted : (job list : List ℕ) (tick-places slot-places : ℕ) (ticks slots : List ℕ) (answer : Answer)
-    → Right job list tick-places slot-places ticks slots answer → (s : State) × (checked job list tick-places slot-places ≡ going s)
-right-is-accepted job list tick-places slot-places ticks slots answer r =
-    let p : Proper (jobOf job) = proper job _ (r .job-taken) in
-    let (s, e) = follows-goes (jobOf job) (eventsOf list) p (r .in-order) ticks slots answer (r .sheet) (r .may-begin) in (
+pub right-is-accepted : (asked : Call) (list : List ℕ) (tick-places slot-places : ℕ) (ticks slots : List ℕ) (answer : Answer)
+    → Right asked list tick-places slot-places ticks slots answer → (s : State) × (checked asked list tick-places slot-places ≡ going s)
+right-is-accepted asked list tick-places slot-places ticks slots answer r =
+    let p : Proper (jobOf asked) = proper asked _ (r .job-taken) in
+    let (s, e) = follows-goes (jobOf asked) (eventsOf list) p (r .in-order) ticks slots answer (r .sheet) (r .may-begin) in (
       s,
-      checked-follows job list tick-places slot-places _ (r .job-taken) (readable list (r .list-read)) (r .tick-room) (r .slot-room) (r .in-order) ∙ e,
+      checked-follows asked list tick-places slot-places _ (r .job-taken) (readable list (r .list-read)) (r .tick-room) (r .slot-room) (r .in-order) ∙ e,
     )
 
 -- And it reports that sheet.
-pub right-is-reported : (job list : List ℕ) (tick-places slot-places : ℕ) (ticks slots : List ℕ) (answer : Answer)
-    → Right job list tick-places slot-places ticks slots answer
-    → (ticksOf (checked job list tick-places slot-places) ≡ ticks)
-    × (slotsOf (checked job list tick-places slot-places) ≡ slots)
-    × (answerOf (checked job list tick-places slot-places) ≡ answer)
-right-is-reported job list tick-places slot-places ticks slots answer r =
-    let (s, e) = right-is-accepted job list tick-places slot-places ticks slots answer r in
-    let given = accepted-is-right job list tick-places slot-places s e in
+pub right-is-reported : (asked : Call) (list : List ℕ) (tick-places slot-places : ℕ) (ticks slots : List ℕ) (answer : Answer)
+    → Right asked list tick-places slot-places ticks slots answer
+    → (ticksOf (checked asked list tick-places slot-places) ≡ ticks)
+    × (slotsOf (checked asked list tick-places slot-places) ≡ slots)
+    × (answerOf (checked asked list tick-places slot-places) ≡ answer)
+right-is-reported asked list tick-places slot-places ticks slots answer r =
+    let (s, e) = right-is-accepted asked list tick-places slot-places ticks slots answer r in
+    let given = accepted-is-right asked list tick-places slot-places s e in
     let (same-ticks, same-slots, elapsed, waits, loads) =
-    only-sheet (jobOf job) (eventsOf list) _ _ ticks slots _ answer (given .sheet) (r .sheet) in
+    only-sheet (jobOf asked) (eventsOf list) _ _ ticks slots _ answer (given .sheet) (r .sheet) in
     let number = given .number ∙ sym (r .number) in
     let detail = given .detail ∙ sym (r .detail) in (
       same-ticks,

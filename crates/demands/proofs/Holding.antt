@@ -93,9 +93,9 @@ stays starting time t q begun h =
 abbrev pub Holds : Job → ℕ → List ℕ → List Loaded → Type 0
 Holds job tick slots begun = (q : ℕ) → q < job .slots → getD slots q 0 ≡ held job (map eventOf begun) tick q
 
-holds-begins : (job : Job) (tick next q x : ℕ) (slots : List ℕ) (begun : List Loaded) → 1 ≤ job .time → length slots ≡ job .slots
+holds-begins : (job : Job) (tick next q x : ℕ) (slots : List ℕ) (begun : List Loaded) → 1 ≤ job .load-time → length slots ≡ job .slots
     → Holds job tick slots begun → Holds job tick (set slots q free) (begun ++ (loaded tick next q x ∷ []))
-holds-begins job tick next q x slots begun some-time row h r inside =
+holds-begins job tick next q x slots begun some-load-time row h r inside =
     by-test (eqb q r)
     (λ e.
     let same : q ≡ r = eqb-true q r e in
@@ -105,7 +105,7 @@ holds-begins job tick next q x slots begun some-time row h r inside =
       map-snoc,
       getD-set-same slots r free 0 within,
       last-here r tick tick x (map eventOf begun) (omega arith),
-      lt-leb (tick + job .time) tick (omega arith),
+      lt-leb (tick + job .load-time) tick (omega arith),
     ))
     (λ e.
     let other : q ≡ r → ⊥ = eqb-false q r e in
@@ -129,13 +129,13 @@ module _ (time end q x : ℕ) (begun : List Loaded) (l : Last time end q x begun
 
 holds-passes : (job : Job) (tick next : ℕ) (rest slots : List ℕ) (loading : Loading) (begun : List Loaded)
     → Sane job next rest slots loading
-    → Busy (job .time) (tick + 1) tick loading begun → Holds job tick slots begun → Holds job (tick + 1) (landedSlots loading slots) begun
+    → Busy (job .load-time) (tick + 1) tick loading begun → Holds job tick slots begun → Holds job (tick + 1) (landedSlots loading slots) begun
 holds-passes job tick next rest slots Idle begun g b h r inside =
     h r inside
-    ∙ sym (stays (getD (job .starting) r 0) (job .time) tick r begun
-    (λ i m. let e : getD (map loadTick begun) i 0 + job .time ≤ tick + 0 = b .ends i m in omega arith))
+    ∙ sym (stays (getD (job .starting) r 0) (job .load-time) tick r begun
+    (λ i m. let e : getD (map loadTick begun) i 0 + job .load-time ≤ tick + 0 = b .ends i m in omega arith))
 holds-passes job tick next rest slots (Under zero q x) begun g b h r inside =
-    let l : Last (job .time) (tick + 0 + 1) q x begun = b .last 0 q x refl in
+    let l : Last (job .load-time) (tick + 0 + 1) q x begun = b .last 0 q x refl in
     let u : Underway job slots 0 q x = g .under 0 q x refl in
     let began : l .tick ≤ tick = omega arith in
     by-test (eqb q r)
@@ -145,17 +145,17 @@ holds-passes job tick next rest slots (Under zero q x) begun g b h r inside =
     rw (
       ← same,
       getD-set-same slots q x 0 within,
-      here (job .time) (tick + 0 + 1) q x begun l (tick + 1) (omega arith),
-      le-leb (l .tick + job .time) (tick + 1) (omega arith),
+      here (job .load-time) (tick + 0 + 1) q x begun l (tick + 1) (omega arith),
+      le-leb (l .tick + job .load-time) (tick + 1) (omega arith),
     ))
     (λ e.
     let other : q ≡ r → ⊥ = eqb-false q r e in
     let apart : r ≡ q → ⊥ = λ f. other (sym f) in
     getD-set-other slots q r x 0 apart
     ∙ h r inside
-    ∙ sym (elsewhere-stays (job .time) (tick + 0 + 1) q x begun l (getD (job .starting) r 0) tick r other began))
+    ∙ sym (elsewhere-stays (job .load-time) (tick + 0 + 1) q x begun l (getD (job .starting) r 0) tick r other began))
 holds-passes job tick next rest slots (Under (suc left) q x) begun g b h r inside =
-    let l : Last (job .time) (tick + suc left + 1) q x begun = b .last (suc left) q x refl in
+    let l : Last (job .load-time) (tick + suc left + 1) q x begun = b .last (suc left) q x refl in
     let u : Underway job slots (suc left) q x = g .under (suc left) q x refl in
     let began : l .tick ≤ tick = omega arith in
     by-test (eqb q r)
@@ -164,12 +164,12 @@ holds-passes job tick next rest slots (Under (suc left) q x) begun g b h r insid
     rw (
       ← same,
       u .empty,
-      here (job .time) (tick + suc left + 1) q x begun l (tick + 1) (omega arith),
-      lt-leb (l .tick + job .time) (tick + 1) (omega arith),
+      here (job .load-time) (tick + suc left + 1) q x begun l (tick + 1) (omega arith),
+      lt-leb (l .tick + job .load-time) (tick + 1) (omega arith),
     ))
     (λ e.
     h r inside
-    ∙ sym (elsewhere-stays (job .time) (tick + suc left + 1) q x begun l (getD (job .starting) r 0) tick r (eqb-false q r e) began))
+    ∙ sym (elsewhere-stays (job .load-time) (tick + suc left + 1) q x begun l (getD (job .starting) r 0) tick r (eqb-false q r e) began))
 
 -- ---- A run along a list
 
@@ -186,17 +186,17 @@ abbrev pub HoldingBegun : Job → List Event → State → Type 0
 HoldingBegun job events s = ((SaneState job s × BusyBegun job s) × AlongBegun job events s) × Holds job (s .tick) (s .slots) (s .begun)
 
 -- Every move keeps the slots as the loads begun so far say.
-pub holding-moves : (job : Job) (events : List Event) → 1 ≤ job .time
+pub holding-moves : (job : Job) (events : List Event) → 1 ≤ job .load-time
     → Moves job (follow events) (HoldingBetween job events) (HoldingLanded job events) (HoldingBegun job events)
-holding-moves job events some-time =
+holding-moves job events some-load-time =
     upon job (follow events) _ _ _ _ _ _
     (both job (follow events) _ _ _ _ _ _
-    (both job (follow events) _ _ _ _ _ _ (sane-moves job (follow events) some-time) (busy-moves job (follow events) some-time))
-    (along-moves job events some-time))
+    (both job (follow events) _ _ _ _ _ _ (sane-moves job (follow events) some-load-time) (busy-moves job (follow events) some-load-time))
+    (along-moves job events some-load-time))
     (record {
       lands = λ s more g h. h;
       passes = λ s more a g h. h;
-      begins = λ q x s b g h. holds-begins job (s .tick) (s .next) q x (s .slots) (s .begun) some-time (g .0 .0 .row) h;
+      begins = λ q x s b g h. holds-begins job (s .tick) (s .next) q x (s .slots) (s .begun) some-load-time (g .0 .0 .row) h;
       draws = λ q s d g h.
           holds-passes job (s .tick) (s .next) (s .rest) (s .slots) (s .loading) (s .begun) (g .0 .0) (g .0 .1) h;
       waits = λ s w g h.
@@ -218,4 +218,4 @@ shown job events s g q inside =
     ap (lastLoad q (s .tick)) (a .so-far)
     ∙ sym (front-decides q (s .tick) (take (s .loads) events) (drop (s .loads) events) later)
     ∙ ap (lastLoad q (s .tick)) (take-append-drop (s .loads) events) in
-    g .1 q inside ∙ ap (leaves (getD (job .starting) q 0) (job .time) (s .tick)) same
+    g .1 q inside ∙ ap (leaves (getD (job .starting) q 0) (job .load-time) (s .tick)) same

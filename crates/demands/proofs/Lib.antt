@@ -1,4 +1,5 @@
 pub mod Holding
+pub mod Causes
 pub mod Witness
 pub mod Events
 pub mod Only
@@ -9,9 +10,17 @@ pub mod Words
 pub mod Refusing
 pub mod Demand1
 pub mod Fits
-pub mod NoSecondAnswer
 pub mod Demand2
 pub mod Demand3
 pub mod Ended
 pub mod Sharper
 pub mod Nearest
+pub mod SlotWords
+pub mod DrawWords
+pub mod TickWords
+pub mod RunWords
+pub mod TurnWords
+pub mod ListWords
+pub mod WrittenAgain
+pub mod PlansInWords
+pub mod Outgoing

@@ -5,10 +5,10 @@ use native.Mathlib.Omega.{arith}
 use mathlib.Core.Path.{_≡_, refl}
 use mathlib.Core.List.{List, [], _∷_, map}
 use Rattle.rules.specs.Basics.{place}
-use Rattle.rules.specs.Job.{symbols, jobOf}
+use Rattle.rules.specs.Job.{Call, call, symbols, jobOf}
 use Rattle.rules.specs.LoadList.{event, eventsIn, eventsBytes, listBytes}
 use Rattle.rules.specs.Display.{Run, Rule, run, tick, beginning, happened}
-use Rattle.rules.specs.Plans.{rank, greatest, ahead, on-demand, opt, conservative, runPlan, begunIn}
+use Rattle.rules.specs.Plans.{rank, ranksFrom, greatest, ahead, on-demand, opt, conservative, runPlan, begunIn}
 use Rattle.rules.specs.Refusals.{checked, due, firstBadTick, doubled, inTime, answerOf}
 use Rattle.rules.specs.Worked.{symbolBytes, jobBytes, numbers, accepts}
 use Rattle.demands.proofs.Demand3.{NoWorse}
@@ -28,8 +28,8 @@ abbrev nearestOpt : Rule
 nearestOpt = on-demand (λ s. nearest (ahead s) (s .slots))
 
 -- Two slots, four ticks to a load, and two symbols drawn by turns, of which one is in a slot.
-abbrev sheet : List ℕ
-sheet = jobBytes 4 (1 ∷ 2 ∷ []) (3 ∷ 1 ∷ 3 ∷ 1 ∷ [])
+abbrev sheet : Call
+sheet = call (jobBytes 4 (1 ∷ 2 ∷ []) (3 ∷ 1 ∷ 3 ∷ 1 ∷ []))
 
 -- Conservative, made from some opt.
 abbrev planOf : Rule → Run
@@ -40,8 +40,8 @@ abbrev listed : Run
 listed = checked sheet (listBytes (event 0 1 3 ∷ [])) 4 4
 
 -- The list is accepted, with eight ticks and one load, and from the furthest choice conservative is as good.
-one-load : (numbers (answerOf listed) ≡ accepts 8 4 1) × (numbers (answerOf (planOf opt)) ≡ accepts 8 4 1)
-unfolding checked symbolBytes run tick beginning happened place symbols doubled greatest eventsIn eventsBytes due firstBadTick
+one-load : (numbers (answerOf listed) ≡ accepts 8 4 1) × (numbers (answerOf (planOf (opt (jobOf sheet)))) ≡ accepts 8 4 1)
+unfolding checked symbolBytes run tick beginning happened place symbols doubled ranksFrom greatest eventsIn eventsBytes due firstBadTick
 one-load = (refl, refl)
 
 -- From the nearest choice it loads at every draw.

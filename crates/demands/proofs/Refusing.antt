@@ -10,7 +10,7 @@ use lib.Dec.{ltb}
 use borrow.Author.Tests.{ltb-true, lt-ltb}
 use Rattle.rules.specs.declared.JobReading.the-variants.{Taken}
 use Rattle.rules.specs.Order.{Verdict, clear, met, firstOf}
-use Rattle.rules.specs.Job.{Job, shapeOf, jobOf}
+use Rattle.rules.specs.Job.{Call, Job, shapeOf, jobOf}
 use Rattle.rules.specs.LoadList.{Event, eventsOf}
 use Rattle.rules.specs.Display.{State, Run, going, refused, unless, start, finished, run}
 use Rattle.rules.specs.Plans.{ruleOf, runPlan}
@@ -22,12 +22,14 @@ use Rattle.laws.proofs.Along.{Ruly, over-in-time}
 use Rattle.laws.proofs.Checks.{in-order, checked-met, checked-past}
 use Rattle.plan_laws.proofs.Plans.{Any, plan-done}
 use Rattle.plan_laws.proofs.Keeping.{Done}
-use Rattle.demands.specs.Table.{Quiet, checkRows, Refuses, under-way, beyond, held, no-symbol, endless, Met, LeftOver, Given, at-once, in-time, at-the-end}
-use Rattle.demands.proofs.Stops.{going-is-not-refused, held-and-failed, then-refused, run-refused, refused-on-the-way, over-anyway, tick-refused, row-refuses}
+use Rattle.demands.specs.Table.{Quiet, checkRows, Refuses, under-way, beyond, held, no-symbol, endless, Met, LeftOver, Given, at-once, in-time}
+use Rattle.demands.specs.Table.{at-the-end}
+use Rattle.demands.proofs.Stops.{going-is-not-refused, held-and-failed, then-refused, run-refused, refused-on-the-way, over-anyway}
+use Rattle.demands.proofs.Stops.{tick-refused, row-refuses}
 use Rattle.demands.proofs.Tables.{late, lateTests, plan-is-tests, gives-met, met-gives, quiet-clear, clear-quiet}
 use Rattle.demands.proofs.Words.{check-words}
 
--- ---- What a number says of the run behind it
+-- ---- What a number says of its run
 
 -- A call answers this number and this detail.
 abbrev pub Answers : Run → ℕ → ℕ → Type 0
@@ -45,38 +47,38 @@ answers-so r n d e = rw e (refl, refl)
 -- ---- A plan
 
 -- A plan is refused only as its tests come to it: past them all, that of row 15 too, its run is not refused.
-pub plan-found : (job : List ℕ) (plan room n d : ℕ) → planned job plan room ≡ refused n d → firstOf (lateTests job plan room) ≡ met n d
+pub plan-found : (asked : Call) (plan room n d : ℕ) → planned asked plan room ≡ refused n d → firstOf (lateTests asked plan room) ≡ met n d
 unfolding jobTests
-plan-found job plan room n d e = by-verdict (firstOf (lateTests job plan room)) refl (sym (plan-is-tests job plan room) ∙ e)
+plan-found asked plan room n d e = by-verdict (firstOf (lateTests asked plan room)) refl (sym (plan-is-tests asked plan room) ∙ e)
   where
-    by-verdict : (v : Verdict) → firstOf (lateTests job plan room) ≡ v
-        → unless v (runPlan (jobOf job) (ruleOf (jobOf job) plan)) ≡ refused n d → v ≡ met n d
+    by-verdict : (v : Verdict) → firstOf (lateTests asked plan room) ≡ v
+        → unless v (runPlan (jobOf asked) (ruleOf (jobOf asked) plan)) ≡ refused n d → v ≡ met n d
     by-verdict (met m c) is stops = cc
     by-verdict clear is stops =
-        let in-limit : late (runPlan (jobOf job) (ruleOf (jobOf job) plan)) ≡ false = clear-of (lateTests job plan room) is 15 in
+        let in-limit : late (runPlan (jobOf asked) (ruleOf (jobOf asked) plan)) ≡ false = clear-of (lateTests asked plan room) is 15 in
         held-and-failed true refl (rw stops at in-limit)
 
 -- A plan of a job that is taken is over in time.
-in-limit : (job : List ℕ) (plan : ℕ) → readJob job ≡ Taken (shapeOf job) → late (runPlan (jobOf job) (ruleOf (jobOf job) plan)) ≡ false
-in-limit job plan taken =
-    let d : Done (jobOf job) (ruleOf (jobOf job) plan) Any = plan-done (jobOf job) (proper job _ taken) plan in rw (d .ran, d .over)
+in-limit : (asked : Call) (plan : ℕ) → readJob (asked .job) ≡ Taken (shapeOf (asked .job)) → late (runPlan (jobOf asked) (ruleOf (jobOf asked) plan)) ≡ false
+in-limit asked plan taken =
+    let d : Done (jobOf asked) (ruleOf (jobOf asked) plan) Any = plan-done (jobOf asked) (proper asked _ taken) plan in rw (d .ran, d .over)
 
 -- So the test of row 15 is never the first to hold.
-pub never-late : (job : List ℕ) (plan room d : ℕ) → firstOf (lateTests job plan room) ≡ met 15 d → ⊥
+pub never-late : (asked : Call) (plan room d : ℕ) → firstOf (lateTests asked plan room) ≡ met 15 d → ⊥
 unfolding jobTests
-never-late job plan room d e =
-    let g : GivenBy (lateTests job plan room) 15 d = given-exactly (lateTests job plan room) 15 d refl .0 e in
-    let taken : readJob job ≡ Taken (shapeOf job) = clear-taken job (clear-append (jobTests job) _ (g .first) .0) in
-    held-and-failed _ (g .holds) (in-limit job plan taken)
+never-late asked plan room d e =
+    let g : GivenBy (lateTests asked plan room) 15 d = given-exactly (lateTests asked plan room) 15 d refl .0 e in
+    let taken : readJob (asked .job) ≡ Taken (shapeOf (asked .job)) = clear-taken (asked .job) (clear-append (jobTests (asked .job)) _ (g .first) .0) in
+    held-and-failed _ (g .holds) (in-limit asked plan taken)
 
 -- ---- A check
 
 -- A check whose tests before time begins all fail: its job is taken, and its events are in order.
-clear-so : (job list : List ℕ) (ticks slots : ℕ) → firstOf (checkTests job list ticks slots) ≡ clear
-    → (readJob job ≡ Taken (shapeOf job)) × Ruly 0 (eventsOf list)
+clear-so : (asked : Call) (list : List ℕ) (ticks slots : ℕ) → firstOf (checkTests asked list ticks slots) ≡ clear
+    → (readJob (asked .job) ≡ Taken (shapeOf (asked .job))) × Ruly 0 (eventsOf list)
 unfolding jobTests
-clear-so job list ticks slots e =
-    (clear-taken job (clear-append (jobTests job) _ e .0), in-order (eventsOf list) (clear-of (checkTests job list ticks slots) e 9))
+clear-so asked list ticks slots e =
+    (clear-taken (asked .job) (clear-append (jobTests (asked .job)) _ e .0), in-order (eventsOf list) (clear-of (checkTests asked list ticks slots) e 9))
 
 -- What time meets along a list, of a job that is taken and with the events in order.
 module _ (job : Job) (events : List Event) (good : Proper job) (ordered : Ruly 0 events) where
@@ -94,7 +96,7 @@ module _ (job : Job) (events : List Event) (good : Proper job) (ordered : Ruly 0
   left-refuses : (d : ℕ) → LeftOver job events d → follows job events ≡ refused 14 d
   left-refuses d l =
       let left : l .state .loads < length events = rw (l .first) (l .left) in
-      rw (over-anyway job (follow events) (mostTicks job) over-by-then (l .ticks) (l .state) (l .ran) (l .over), lt-ltb _ _ left, l .first)
+      rw (over-anyway job (follow events) (mostTicks job) over-by-then (l .ticks) (l .state) (l .ran) (l .over), l .over, lt-ltb _ _ left, l .first)
 
   -- Nothing else does.
   refused-so : (n d : ℕ) → follows job events ≡ refused n d → Met job events n d ⊎ ((n ≡ 14) × LeftOver job events d)
@@ -109,48 +111,48 @@ module _ (job : Job) (events : List Event) (good : Proper job) (ordered : Ruly 0
       by-end (inr (s, ran, closed)) =
           by-test (ltb (s .loads) (length events))
           (λ t.
-          let same : refused 14 (s .loads) ≡ refused n d = rw t at closed in
+          let same : refused 14 (s .loads) ≡ refused n d = rw (over-by-then s ran, t) at closed in
           let number : n ≡ 14 = cc in
           let detail : s .loads ≡ d = cc in
           let left : s .loads < length events = ltb-true _ _ t in
           inr (number, record { ticks = mostTicks job; state = s; ran = ran; over = over-by-then s ran; left = rw (← detail) left; first = detail }))
-          (λ t. going-is-not-refused s n d (rw t at closed))
+          (λ t. going-is-not-refused s n d (rw (over-by-then s ran, t) at closed))
 
--- A check is its run along the list behind its tests.
-check-is-tests : (job list : List ℕ) (ticks slots : ℕ)
-    → checked job list ticks slots ≡ unless (firstOf (checkTests job list ticks slots)) (follows (jobOf job) (eventsOf list))
+-- A check is its run along the list after its tests.
+check-is-tests : (asked : Call) (list : List ℕ) (ticks slots : ℕ)
+    → checked asked list ticks slots ≡ unless (firstOf (checkTests asked list ticks slots)) (follows (jobOf asked) (eventsOf list))
 unfolding checked
-check-is-tests job list ticks slots = refl
+check-is-tests asked list ticks slots = refl
 
 -- A check is refused only as the table gives it,
-pub check-given : (job list : List ℕ) (ticks slots n d : ℕ) → checked job list ticks slots ≡ refused n d → Given job list ticks slots n d
-check-given job list ticks slots n d e = by-verdict (firstOf (checkTests job list ticks slots)) refl (sym (check-is-tests job list ticks slots) ∙ e)
+pub check-given : (asked : Call) (list : List ℕ) (ticks slots n d : ℕ) → checked asked list ticks slots ≡ refused n d → Given asked list ticks slots n d
+check-given asked list ticks slots n d e = by-verdict (firstOf (checkTests asked list ticks slots)) refl (sym (check-is-tests asked list ticks slots) ∙ e)
   where
-    by-time : Quiet (checkRows job list ticks slots)
-        → Met (jobOf job) (eventsOf list) n d ⊎ ((n ≡ 14) × LeftOver (jobOf job) (eventsOf list) d) → Given job list ticks slots n d
+    by-time : Quiet (checkRows asked list ticks slots)
+        → Met (jobOf asked) (eventsOf list) n d ⊎ ((n ≡ 14) × LeftOver (jobOf asked) (eventsOf list) d) → Given asked list ticks slots n d
     by-time q (inl m) = in-time q m
     by-time q (inr (is, l)) = rw is (at-the-end q l)
 
-    by-verdict : (v : Verdict) → firstOf (checkTests job list ticks slots) ≡ v
-        → unless v (follows (jobOf job) (eventsOf list)) ≡ refused n d → Given job list ticks slots n d
-    by-verdict (met m c) is stops = at-once (met-gives _ _ n d (check-words job list ticks slots) (is ∙ cc))
+    by-verdict : (v : Verdict) → firstOf (checkTests asked list ticks slots) ≡ v
+        → unless v (follows (jobOf asked) (eventsOf list)) ≡ refused n d → Given asked list ticks slots n d
+    by-verdict (met m c) is stops = at-once (met-gives _ _ n d (check-words asked list ticks slots) (is ∙ cc))
     by-verdict clear is stops =
-        let (taken, ordered) = clear-so job list ticks slots is in
-        by-time (clear-quiet _ _ (check-words job list ticks slots) is)
-        (refused-so (jobOf job) (eventsOf list) (proper job _ taken) ordered n d stops)
+        let (taken, ordered) = clear-so asked list ticks slots is in
+        by-time (clear-quiet _ _ (check-words asked list ticks slots) is)
+        (refused-so (jobOf asked) (eventsOf list) (proper asked _ taken) ordered n d stops)
 
 -- and what the table gives refuses it.
-pub given-check : (job list : List ℕ) (ticks slots n d : ℕ) → Given job list ticks slots n d → checked job list ticks slots ≡ refused n d
-given-check job list ticks slots n d (at-once g) =
-    checked-met job list ticks slots n d (gives-met _ _ n d (check-words job list ticks slots) g)
-given-check job list ticks slots n d (in-time q m) =
-    let c = quiet-clear _ _ (check-words job list ticks slots) q in
-    let (taken, ordered) = clear-so job list ticks slots c in
-    checked-past job list ticks slots c ∙ met-refuses (jobOf job) (eventsOf list) (proper job _ taken) ordered n d m
-given-check job list ticks slots n d (at-the-end q l) =
-    let c = quiet-clear _ _ (check-words job list ticks slots) q in
-    let (taken, ordered) = clear-so job list ticks slots c in
-    checked-past job list ticks slots c ∙ left-refuses (jobOf job) (eventsOf list) (proper job _ taken) ordered d l
+pub given-check : (asked : Call) (list : List ℕ) (ticks slots n d : ℕ) → Given asked list ticks slots n d → checked asked list ticks slots ≡ refused n d
+given-check asked list ticks slots n d (at-once g) =
+    checked-met asked list ticks slots n d (gives-met _ _ n d (check-words asked list ticks slots) g)
+given-check asked list ticks slots n d (in-time q m) =
+    let c = quiet-clear _ _ (check-words asked list ticks slots) q in
+    let (taken, ordered) = clear-so asked list ticks slots c in
+    checked-past asked list ticks slots c ∙ met-refuses (jobOf asked) (eventsOf list) (proper asked _ taken) ordered n d m
+given-check asked list ticks slots n d (at-the-end q l) =
+    let c = quiet-clear _ _ (check-words asked list ticks slots) q in
+    let (taken, ordered) = clear-so asked list ticks slots c in
+    checked-past asked list ticks slots c ∙ left-refuses (jobOf asked) (eventsOf list) (proper asked _ taken) ordered d l
 
 -- ---- Number 0, and no number that the table does not have
 
@@ -163,12 +165,12 @@ refuses-number job events s n d (no-symbol q x asks quiet slot mark) z = omega a
 refuses-number job events s n d (endless quiet unheld left) z = omega arith
 
 -- and no row of the whole table has.
-check-number : (job list : List ℕ) (ticks slots n d : ℕ) → Given job list ticks slots n d → n ≡ 0 → ⊥
+check-number : (asked : Call) (list : List ℕ) (ticks slots n d : ℕ) → Given asked list ticks slots n d → n ≡ 0 → ⊥
 unfolding jobTests
-check-number job list ticks slots n d (at-once g) z =
-    never-met (checkTests job list ticks slots) 0 d refl (gives-met _ _ n d (check-words job list ticks slots) g ∙ ap (λ (m : ℕ). met m d) z)
-check-number job list ticks slots n d (in-time q m) z = refuses-number (jobOf job) (eventsOf list) (m .state) n d (m .refuses) z
-check-number job list ticks slots n d (at-the-end q l) z = omega arith
+check-number asked list ticks slots n d (at-once g) z =
+    never-met (checkTests asked list ticks slots) 0 d refl (gives-met _ _ n d (check-words asked list ticks slots) g ∙ ap (λ (m : ℕ). met m d) z)
+check-number asked list ticks slots n d (in-time q m) z = refuses-number (jobOf asked) (eventsOf list) (m .state) n d (m .refuses) z
+check-number asked list ticks slots n d (at-the-end q l) z = omega arith
 
 -- So where a call answers 0, it was not refused.
 goes : (r : Run) → ((n d : ℕ) → r ≡ refused n d → n ≡ 0 → ⊥) → answerOf r .number ≡ 0 → (s : State) × (r ≡ going s)
@@ -176,19 +178,19 @@ goes (going s) refusal e = (s, refl)
 goes (refused n d) refusal e = absurd (refusal n d refl e)
 
 -- No test of a plan has the number 0.
-no-zero : (job : List ℕ) (plan room d : ℕ) → firstOf (lateTests job plan room) ≡ met 0 d → ⊥
+no-zero : (asked : Call) (plan room d : ℕ) → firstOf (lateTests asked plan room) ≡ met 0 d → ⊥
 unfolding jobTests
-no-zero job plan room d e = never-met (lateTests job plan room) 0 d refl e
+no-zero asked plan room d e = never-met (lateTests asked plan room) 0 d refl e
 
 -- A plan that answers 0 went to its last draw.
-pub plan-goes : (job : List ℕ) (plan room : ℕ) → answerOf (planned job plan room) .number ≡ 0 → (s : State) × (planned job plan room ≡ going s)
-plan-goes job plan room e =
-    goes (planned job plan room)
-    (λ n d stops z. no-zero job plan room d (plan-found job plan room n d stops ∙ ap (λ (m : ℕ). met m d) z)) e
+pub plan-goes : (asked : Call) (plan room : ℕ) → answerOf (planned asked plan room) .number ≡ 0 → (s : State) × (planned asked plan room ≡ going s)
+plan-goes asked plan room e =
+    goes (planned asked plan room)
+    (λ n d stops z. no-zero asked plan room d (plan-found asked plan room n d stops ∙ ap (λ (m : ℕ). met m d) z)) e
 
 -- A check that answers 0 went to its last draw.
-pub check-goes : (job list : List ℕ) (ticks slots : ℕ) → answerOf (checked job list ticks slots) .number ≡ 0
-    → (s : State) × (checked job list ticks slots ≡ going s)
-check-goes job list ticks slots e =
-    goes (checked job list ticks slots)
-    (λ n d stops. check-number job list ticks slots n d (check-given job list ticks slots n d stops)) e
+pub check-goes : (asked : Call) (list : List ℕ) (ticks slots : ℕ) → answerOf (checked asked list ticks slots) .number ≡ 0
+    → (s : State) × (checked asked list ticks slots ≡ going s)
+check-goes asked list ticks slots e =
+    goes (checked asked list ticks slots)
+    (λ n d stops. check-number asked list ticks slots n d (check-given asked list ticks slots n d stops)) e

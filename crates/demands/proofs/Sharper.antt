@@ -1,4 +1,4 @@
--- The sharper facts behind demand 3: the loads that have ended, conservative beside opt, and what a plan's loads and waits are.
+-- Sharper facts than demand 3: the loads that have ended, conservative beside opt, and what a plan's loads and waits are.
 use Prim.Native.Nat.{ℕ, zero, suc, _+_, _*_, _≤_}
 use native.Mathlib.Omega.{arith}
 use mathlib.Core.Path.{_≡_, refl, sym, ap, _∙_}
@@ -9,7 +9,7 @@ use lib.Seq.{take-all}
 use Rattle.rules.specs.declared.Cause.{Cause}
 use Rattle.rules.specs.declared.Happening.the-variants.{Draw, Wait}
 use Rattle.rules.specs.declared.JobReading.the-variants.{Taken}
-use Rattle.rules.specs.Job.{Job, shapeOf, drawsOf, jobOf}
+use Rattle.rules.specs.Job.{Call, Job, shapeOf, drawsOf, jobOf}
 use Rattle.rules.specs.LoadList.{head-size, event-size, last-tick, eventsOf}
 use Rattle.rules.specs.Basics.{place, stands}
 use Rattle.rules.specs.Display.{State, going, refused, start, land, idle, awaited, beginning, happeningOf, happened, asked, tick, finished, run}
@@ -32,42 +32,42 @@ use Rattle.demands.proofs.Refusing.{check-goes}
 use Rattle.demands.proofs.Demand1.{plan-accepts}
 
 -- Opt with room lent makes no more loads than any list that a check accepts has ended: a load that ends only after the last draw is left out.
-pub opt-loads-ended : (job list : List ℕ) (ticks slots room : ℕ)
-    → answerOf (checked job list ticks slots) .number ≡ 0
-    → head-size + event-size * length (drawsOf job) ≤ room
-    → answerOf (planned job 2 room) .loads ≤ endedBy (jobOf job .time) (answerOf (checked job list ticks slots) .elapsed) (eventsOf list)
-opt-loads-ended job list ticks slots room list-accepted enough =
-    let (s, followed) = check-goes job list ticks slots list-accepted in
-    let a : Accepted job list ticks slots s = accepted job list ticks slots s followed in
-    let good : Proper (jobOf job) = proper job _ (a .job-taken) in
-    let better = conservative-better (jobOf job) good (follow (eventsOf list)) (mostTicks (jobOf job)) s (a .ran) (a .over) in
-    let same = conservative-no-later (jobOf job) good .1 in
-    let front = along (jobOf job) (eventsOf list) good (a .ordered) (mostTicks (jobOf job)) s (a .ran) .so-far in
+pub opt-loads-ended : (asked : Call) (list : List ℕ) (ticks slots room : ℕ)
+    → answerOf (checked asked list ticks slots) .number ≡ 0
+    → head-size + event-size * length (drawsOf asked) ≤ room
+    → answerOf (planned asked 2 room) .loads ≤ endedBy (jobOf asked .load-time) (answerOf (checked asked list ticks slots) .elapsed) (eventsOf list)
+opt-loads-ended asked list ticks slots room list-accepted enough =
+    let (s, followed) = check-goes asked list ticks slots list-accepted in
+    let a : Accepted asked list ticks slots s = accepted asked list ticks slots s followed in
+    let good : Proper (jobOf asked) = proper asked _ (a .job-taken) in
+    let better = conservative-better (jobOf asked) good (follow (eventsOf list)) (mostTicks (jobOf asked)) s (a .ran) (a .over) in
+    let same = conservative-no-later (jobOf asked) good .1 in
+    let front = along (jobOf asked) (eventsOf list) good (a .ordered) (mostTicks (jobOf asked)) s (a .ran) .so-far in
     let whole : map eventOf (s .begun) ≡ eventsOf list = front ∙ take-all (s .loads) (eventsOf list) (omega (arith, a .all-begun)) in
-    let ended = ended-but-one (jobOf job) (follow (eventsOf list)) good (mostTicks (jobOf job)) s (a .ran) in
-    rw (planned-done job (shapeOf job) 2 room (a .job-taken) (omega arith) enough (opt-done (jobOf job) good), followed)
+    let ended = ended-but-one (jobOf asked) (follow (eventsOf list)) good (mostTicks (jobOf asked)) s (a .ran) in
+    rw (planned-done asked (shapeOf (asked .job)) 2 room (a .job-taken) (omega arith) enough (opt-done (jobOf asked) good), followed)
     (omega (arith, same, better .loads-ended, rw whole at ended))
 
 -- Of every job that is accepted, with room lent, conservative is never later than opt, with as many loads.
-pub conservative-before-opt : (job : List ℕ) (room : ℕ) → readJob job ≡ Taken (shapeOf job)
-    → head-size + event-size * length (drawsOf job) ≤ room
-    → (answerOf (planned job 1 room) .elapsed ≤ answerOf (planned job 2 room) .elapsed)
-    × (answerOf (planned job 1 room) .loads ≡ answerOf (planned job 2 room) .loads)
-conservative-before-opt job room taken enough =
-    let good : Proper (jobOf job) = proper job _ taken in
+pub conservative-before-opt : (asked : Call) (room : ℕ) → readJob (asked .job) ≡ Taken (shapeOf (asked .job))
+    → head-size + event-size * length (drawsOf asked) ≤ room
+    → (answerOf (planned asked 1 room) .elapsed ≤ answerOf (planned asked 2 room) .elapsed)
+    × (answerOf (planned asked 1 room) .loads ≡ answerOf (planned asked 2 room) .loads)
+conservative-before-opt asked room taken enough =
+    let good : Proper (jobOf asked) = proper asked _ taken in
     rw (
-      planned-done job (shapeOf job) 1 room taken (omega arith) enough (conservative-done (jobOf job) good),
-      planned-done job (shapeOf job) 2 room taken (omega arith) enough (opt-done (jobOf job) good),
-    ) (conservative-no-later (jobOf job) good)
+      planned-done asked (shapeOf (asked .job)) 1 room taken (omega arith) enough (conservative-done (jobOf asked) good),
+      planned-done asked (shapeOf (asked .job)) 2 room taken (omega arith) enough (opt-done (jobOf asked) good),
+    ) (conservative-no-later (jobOf asked) good)
 
 -- A plan that is accepted makes at most one load to each draw, and waits at most F ticks for each load.
-pub plan-loads-few : (job : List ℕ) (plan room : ℕ) → answerOf (planned job plan room) .number ≡ 0
-    → (answerOf (planned job plan room) .loads ≤ length (drawsOf job))
-    × (answerOf (planned job plan room) .waits ≤ jobOf job .time * answerOf (planned job plan room) .loads)
-plan-loads-few job plan room plan-accepted =
-    let (taken, known, enough) = plan-accepts job plan room .0 plan-accepted in
-    let d : Done (jobOf job) (ruleOf (jobOf job) plan) Any = plan-done (jobOf job) (proper job _ taken) plan in
-    rw (planned-done job (shapeOf job) plan room taken known enough d) (d .few, d .brief)
+pub plan-loads-few : (asked : Call) (plan room : ℕ) → answerOf (planned asked plan room) .number ≡ 0
+    → (answerOf (planned asked plan room) .loads ≤ length (drawsOf asked))
+    × (answerOf (planned asked plan room) .waits ≤ jobOf asked .load-time * answerOf (planned asked plan room) .loads)
+plan-loads-few asked plan room plan-accepted =
+    let (taken, known, enough) = plan-accepts asked plan room .0 plan-accepted in
+    let d : Done (jobOf asked) (ruleOf (jobOf asked) plan) Any = plan-done (jobOf asked) (proper asked _ taken) plan in
+    rw (planned-done asked (shapeOf (asked .job)) plan room taken known enough d) (d .few, d .brief)
 
 -- A plan never says that it would ask again later.
 always-done : (job : Job) (plan : ℕ) (s : State) → ruleOf job plan .done s ≡ true
@@ -87,21 +87,21 @@ wait-stops job plan s after c began waits quiet =
     (λ t. rw (began, t, always-done job plan after, endless-wait (after .loading) (awaited after) quiet))
 
 -- At every tick of a plan's run that is a wait, a load is under way, one begun in that tick counted in.
-pub waits-under-way : (job : List ℕ) (plan : ℕ) → readJob job ≡ Taken (shapeOf job)
+pub waits-under-way : (what : Call) (plan : ℕ) → readJob (what .job) ≡ Taken (shapeOf (what .job))
     → (t : ℕ) (s after : State) (c : Cause)
-    → run (jobOf job) (ruleOf (jobOf job) plan) t (start (jobOf job)) ≡ going s
+    → run (jobOf what) (ruleOf (jobOf what) plan) t (start (jobOf what)) ≡ going s
     → finished (s .rest) ≡ false
-    → beginning (jobOf job) (asked (ruleOf (jobOf job) plan) s) (land s) ≡ going after
+    → beginning (jobOf what) (asked (ruleOf (jobOf what) plan) s) (land s) ≡ going after
     → happeningOf after ≡ Wait c
     → idle (after .loading) ≡ false
-waits-under-way job plan taken t s after c ran more began waits =
-    let rule = ruleOf (jobOf job) plan in
-    let d : Done (jobOf job) rule Any = plan-done (jobOf job) (proper job _ taken) plan in
+waits-under-way what plan taken t s after c ran more began waits =
+    let rule = ruleOf (jobOf what) plan in
+    let d : Done (jobOf what) rule Any = plan-done (jobOf what) (proper what _ taken) plan in
     by-test (idle (after .loading))
     (λ quiet.
     going-is-not-refused (d .last) 13 (after .next)
     (sym (d .ran)
-    ∙ refused-on-the-way (jobOf job) rule last-tick
+    ∙ refused-on-the-way (jobOf what) rule last-tick
     (λ last ended. let same : d .last ≡ last = let g : going (d .last) ≡ going last = sym (d .ran) ∙ ended in cc in rw (← same) (ap finished (d .over)))
-    t s 13 (after .next) ran more (wait-stops (jobOf job) plan s after c began waits quiet)))
+    t s 13 (after .next) ran more (wait-stops (jobOf what) plan s after c began waits quiet)))
     (λ busy. busy)

@@ -16,7 +16,8 @@ use Rattle.rules.specs.declared.Happening.the-variants.{Wait}
 use Rattle.rules.specs.Basics.{stands}
 use Rattle.rules.specs.Job.{Job, free}
 use Rattle.rules.specs.LoadList.{Event}
-use Rattle.rules.specs.Display.{State, Run, Rule, going, refused, start, land, idle, loadTests, beginning, awaited, causeOf, happeningOf, stuck, happened, then, asked, tick, finished, run}
+use Rattle.rules.specs.Display.{State, Run, Rule, going, refused, start, land, idle, loadTests, beginning, awaited, causeOf, happeningOf, stuck}
+use Rattle.rules.specs.Display.{happened, then, asked, tick, finished, run}
 use Rattle.rules.specs.Refusals.{due, follow}
 use Rattle.laws.proofs.Cases.{by-test}
 use Rattle.laws.proofs.Verdicts.{clear-of, Each, met-by}
@@ -32,7 +33,7 @@ going-is-not-refused s n d e = let z : _≡_ {A = ℕ} 0 1 = cc in absurd (omega
 pub held-and-failed : {A : Type 0} (b : Bool) → b ≡ true → b ≡ false → A
 held-and-failed b held-so failed-so = let z : _≡_ {A = ℕ} 0 1 = cc in absurd (omega arith)
 
--- A run behind another that is refused: the first was, or it went on to a state from which the second was.
+-- A run after another that is refused: the first was, or it went on to a state from which the second was.
 pub then-refused : (r : Run) (f : State → Run) (n d : ℕ) → then r f ≡ refused n d
     → (r ≡ refused n d) ⊎ ((s : State) × (r ≡ going s) × (f s ≡ refused n d))
 then-refused (going s) f n d e = inr (s, refl, e)
@@ -49,7 +50,8 @@ module _ (job : Job) (rule : Rule) where
       (λ f. going-is-not-refused s n d (rw f at e))
       (λ f. at-first f (then-refused (tick job rule s) (run job rule t) n d (rw f at e)) (λ s₁ later. run-refused t s₁ n d later))
     where
-      at-first : finished (s .rest) ≡ false → (tick job rule s ≡ refused n d) ⊎ ((s₁ : State) × (tick job rule s ≡ going s₁) × (run job rule t s₁ ≡ refused n d))
+      at-first : finished (s .rest) ≡ false
+          → (tick job rule s ≡ refused n d) ⊎ ((s₁ : State) × (tick job rule s ≡ going s₁) × (run job rule t s₁ ≡ refused n d))
           → ((s₁ : State) → run job rule t s₁ ≡ refused n d
           → (u : ℕ) × (s′ : State) × (run job rule u s₁ ≡ going s′) × (finished (s′ .rest) ≡ false) × (tick job rule s′ ≡ refused n d))
           → (u : ℕ) × (s′ : State) × (run job rule u s ≡ going s′) × (finished (s′ .rest) ≡ false) × (tick job rule s′ ≡ refused n d)

@@ -6,7 +6,7 @@ use mathlib.Core.Bool.{Bool, true, false, not}
 use mathlib.Core.List.{List, [], _∷_, _++_}
 use mathlib.Core.Logic.{inl, inr}
 use Rattle.rules.specs.Order.{Test, test, clear, met, firstOf}
-use Rattle.rules.specs.Job.{jobOf}
+use Rattle.rules.specs.Job.{Call, jobOf}
 use Rattle.rules.specs.Display.{Run, going, refused, unless, finished}
 use Rattle.rules.specs.Plans.{ruleOf, runPlan}
 use Rattle.rules.specs.Refusals.{inTime, planTests, planned}
@@ -22,27 +22,28 @@ abbrev pub late : Run → Bool
 late (going s) = not (finished (s .rest))
 late (refused number detail) = true
 
--- The tests of a plan, and behind them the one of row 15.
-abbrev pub lateTests : List ℕ → ℕ → ℕ → List Test
-lateTests job plan room = planTests job plan room ++ (test 15 0 (late (runPlan (jobOf job) (ruleOf (jobOf job) plan))) ∷ [])
+-- The tests of a plan, and after them the one of row 15.
+abbrev pub lateTests : Call → ℕ → ℕ → List Test
+lateTests asked plan room =
+    planTests asked plan room ++ (test 15 0 (late (runPlan (jobOf asked) (ruleOf (jobOf asked) plan))) ∷ [])
 
 in-time : (r : Run) → inTime r ≡ unless (firstOf (test 15 0 (late r) ∷ [])) r
 unfolding firstOf
 in-time (going s) = by-test (finished (s .rest)) (λ t. rw t) (λ t. rw t)
 in-time (refused n d) = refl
 
-plan-in-time : (job : List ℕ) (plan room : ℕ)
-    → planned job plan room ≡ unless (firstOf (planTests job plan room)) (inTime (runPlan (jobOf job) (ruleOf (jobOf job) plan)))
+plan-in-time : (asked : Call) (plan room : ℕ)
+    → planned asked plan room ≡ unless (firstOf (planTests asked plan room)) (inTime (runPlan (jobOf asked) (ruleOf (jobOf asked) plan)))
 unfolding planned
-plan-in-time job plan room = refl
+plan-in-time asked plan room = refl
 
--- A plan is its run behind these tests.
-pub plan-is-tests : (job : List ℕ) (plan room : ℕ)
-    → planned job plan room ≡ unless (firstOf (lateTests job plan room)) (runPlan (jobOf job) (ruleOf (jobOf job) plan))
-plan-is-tests job plan room =
-    plan-in-time job plan room
-    ∙ ap (unless (firstOf (planTests job plan room))) (in-time (runPlan (jobOf job) (ruleOf (jobOf job) plan)))
-    ∙ sym (unless-append (planTests job plan room) _ _)
+-- A plan is its run after these tests.
+pub plan-is-tests : (asked : Call) (plan room : ℕ)
+    → planned asked plan room ≡ unless (firstOf (lateTests asked plan room)) (runPlan (jobOf asked) (ruleOf (jobOf asked) plan))
+plan-is-tests asked plan room =
+    plan-in-time asked plan room
+    ∙ ap (unless (firstOf (planTests asked plan room))) (in-time (runPlan (jobOf asked) (ruleOf (jobOf asked) plan)))
+    ∙ sym (unless-append (planTests asked plan room) _ _)
 
 -- ---- Tests and words
 

@@ -10,7 +10,7 @@ use lib.Seq.{getD-at}
 use lib.Dec.{ltb}
 use borrow.Author.Tests.{ltb-true, ltb-false}
 use Rattle.rules.specs.Basics.{place, stands}
-use Rattle.rules.specs.Job.{Job, drawsOf, jobOf}
+use Rattle.rules.specs.Job.{Call, Job, drawsOf, jobOf}
 use Rattle.rules.specs.LoadList.{Event, eventsOf}
 use Rattle.rules.specs.Display.{State, drawn, going, start, awaited, run}
 use Rattle.rules.specs.Refusals.{follow, tickOf, slotOf, ticksOf, slotsOf, answerOf, mostTicks, checked}
@@ -108,7 +108,7 @@ module _ (job : Job) (events : List Event) (s : State) (g : HoldingBegun job eve
         soonest = w .waited;
       }
 
-  -- A symbol that stands in no slot is held by none.
+  -- A symbol that is in no slot is held by none.
   pub unheld-now : stands (awaited s) (s .slots) ≡ false → (r : ℕ) → r < job .slots
       → held job events (s .tick) r ≡ getD (job .draws) (s .next) 0 → ⊥
   unheld-now unheld r inside e =
@@ -148,12 +148,12 @@ witness-start job events =
     }
 
 -- All that is known of a run along a list is kept by its moves.
-pub witnessing-moves : (job : Job) (events : List Event) → 1 ≤ job .time
+pub witnessing-moves : (job : Job) (events : List Event) → 1 ≤ job .load-time
     → Moves job (follow events)
     (λ s. HoldingBetween job events s × WitnessedState job events s)
     (λ s. HoldingLanded job events s × WitnessedState job events s)
     (λ s. HoldingBegun job events s × WitnessedState job events s)
-witnessing-moves job events some-time = upon job (follow events) _ _ _ _ _ _ (holding-moves job events some-time) (witness-moves job events)
+witnessing-moves job events some-load-time = upon job (follow events) _ _ _ _ _ _ (holding-moves job events some-load-time) (witness-moves job events)
 
 pub witnessing-start : (job : Job) (events : List Event) → Proper job → Ruly 0 events
     → HoldingBetween job events (start job) × WitnessedState job events (start job)
@@ -162,24 +162,24 @@ witnessing-start job events p ordered = (holding-start job events p ordered, wit
 pub witnessed : (job : Job) (events : List Event) → Proper job → Ruly 0 events → (t : ℕ) (s : State)
     → run job (follow events) t (start job) ≡ going s → WitnessedState job events s
 witnessed job events p ordered t s e =
-    reached job (follow events) _ _ _ (witnessing-moves job events (p .some-time))
+    reached job (follow events) _ _ _ (witnessing-moves job events (p .some-load-time))
     t (start job) s (witnessing-start job events p ordered) e .1
 
 -- The sheet that an accepted check reports is right by the list alone: for each draw the slot reported holds its symbol at the tick
 -- reported, no lower slot does, and no slot did at any tick since the draw before.
-pub sheet-right : (job list : List ℕ) (ticks slots : ℕ) (s : State) → checked job list ticks slots ≡ going s
-    → Sheet (jobOf job) (eventsOf list) (ticksOf (checked job list ticks slots)) (slotsOf (checked job list ticks slots))
-    (answerOf (checked job list ticks slots))
-sheet-right job list ticks slots s e =
-    let a : Accepted job list ticks slots s = accepted job list ticks slots s e in
-    let p : Proper (jobOf job) = proper job _ (a .job-taken) in
-    let fuel : ℕ = mostTicks (jobOf job) in
-    let w : WitnessedState (jobOf job) (eventsOf list) s = witnessed (jobOf job) (eventsOf list) p (a .ordered) fuel s (a .ran) in
-    let g : SaneState (jobOf job) s = sane (jobOf job) (follow (eventsOf list)) p fuel s (a .ran) in
-    let c : CountedState (jobOf job) s = counted (jobOf job) (follow (eventsOf list)) p fuel s (a .ran) in
+pub sheet-right : (asked : Call) (list : List ℕ) (ticks slots : ℕ) (s : State) → checked asked list ticks slots ≡ going s
+    → Sheet (jobOf asked) (eventsOf list) (ticksOf (checked asked list ticks slots)) (slotsOf (checked asked list ticks slots))
+    (answerOf (checked asked list ticks slots))
+sheet-right asked list ticks slots s e =
+    let a : Accepted asked list ticks slots s = accepted asked list ticks slots s e in
+    let p : Proper (jobOf asked) = proper asked _ (a .job-taken) in
+    let fuel : ℕ = mostTicks (jobOf asked) in
+    let w : WitnessedState (jobOf asked) (eventsOf list) s = witnessed (jobOf asked) (eventsOf list) p (a .ordered) fuel s (a .ran) in
+    let g : SaneState (jobOf asked) s = sane (jobOf asked) (follow (eventsOf list)) p fuel s (a .ran) in
+    let c : CountedState (jobOf asked) s = counted (jobOf asked) (follow (eventsOf list)) p fuel s (a .ran) in
     let none : length (s .rest) ≡ 0 = ap length (a .over) in
-    let left : s .next + length (s .rest) ≡ length (drawsOf job) = remaining (jobOf job) (s .next) (s .rest) (s .slots) (s .loading) g in
-    let all : s .next ≡ length (drawsOf job) = omega arith in
+    let left : s .next + length (s .rest) ≡ length (drawsOf asked) = remaining (jobOf asked) (s .next) (s .rest) (s .slots) (s .loading) g in
+    let all : s .next ≡ length (drawsOf asked) = omega arith in
     rw e
     (record {
       a-tick-each = w .all-ticks ∙ all;

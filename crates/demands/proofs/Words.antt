@@ -11,7 +11,7 @@ use borrow.Author.Tests.{ltb-true, lt-ltb, ltb-false, eqb-false, ne-eqb, not-tru
 use Rattle.rules.specs.declared.Shape.{Shape}
 use Rattle.rules.specs.Basics.{place, stands, number32}
 use Rattle.rules.specs.Order.{Test}
-use Rattle.rules.specs.Job.{free, most-slots, most-time, most-draws, shapeOf, startingOf, drawsOf, jobOf}
+use Rattle.rules.specs.Job.{Call, free, most-slots, most-load-time, most-draws, shapeOf, startingSymbols, drawnSymbols, drawsOf, jobOf}
 use Rattle.rules.specs.LoadList.{Event, event, most-events, last-tick, head-size, event-size, countOf, eventsOf}
 use Rattle.rules.specs.Display.{Run, going, refused, finished}
 use Rattle.rules.specs.Plans.{ruleOf, runPlan}
@@ -21,7 +21,9 @@ use Rattle.laws.proofs.Search.{place-holds, present}
 use Rattle.plan_laws.proofs.Asking.{both-true}
 use Rattle.demands.specs.Fair.{eventTick, eventAt}
 use Rattle.demands.specs.Table as table
-use Rattle.demands.specs.Table.{Row, JobLengthWrong, OutsideLimits, no-slot, many-slots, no-time, long-time, many-draws, SymbolsWrong, twice, free-drawn, jobRows, Late, planRows, ListWrong, wrong-version, many-events, wrong-size, PlacesShort, few-ticks, few-slots, OutOfOrder, over-limit, not-above, FirstOutOfOrder, checkRows}
+use Rattle.demands.specs.Table.{Row, JobLengthWrong, OutsideLimits, no-slot, many-slots, no-time, long-time, many-draws, SymbolsWrong, twice}
+use Rattle.demands.specs.Table.{free-drawn, jobRows, Late, planRows, ListWrong, wrong-version, many-events, wrong-size, PlacesShort, few-ticks}
+use Rattle.demands.specs.Table.{few-slots, OutOfOrder, over-limit, not-above, FirstOutOfOrder, checkRows}
 use Rattle.demands.proofs.Stops.{held-and-failed}
 use Rattle.demands.proofs.Tables.{Says, Agree, end, more, late, lateTests}
 
@@ -76,7 +78,8 @@ length-words job = plainly (badJobLength job) to from
   where
     to : JobLengthWrong job → badJobLength job ≡ false → ⊥
     to (table.JobLengthWrong.short h) e = held-and-failed _ (lt-ltb (length job) 10 h) (neither _ _ e .0)
-    to (table.JobLengthWrong.wrong-length h) e = held-and-failed _ (is-unlike (number32 job 0) (length job - 4) h) (neither (ltb (length job) 10) _ e .1)
+    to (table.JobLengthWrong.wrong-length h) e =
+        held-and-failed _ (is-unlike (number32 job 0) (length job - 4) h) (neither (ltb (length job) 10) _ e .1)
 
     from : badJobLength job ≡ true → JobLengthWrong job
     from e =
@@ -88,11 +91,11 @@ length-words job = plainly (badJobLength job) to from
 limits-fail : (shape : Shape) → badLimits shape ≡ false
     → (ltb (shape .slots) 1 ≡ false)
     × (ltb most-slots (shape .slots) ≡ false)
-    × (ltb (shape .time) 1 ≡ false)
-    × (ltb most-time (shape .time) ≡ false)
+    × (ltb (shape .«load_time») 1 ≡ false)
+    × (ltb most-load-time (shape .«load_time») ≡ false)
     × (ltb most-draws (shape .draws) ≡ false)
 limits-fail shape e =
-    none-of-five (ltb (shape .slots) 1) (ltb most-slots (shape .slots)) (ltb (shape .time) 1) (ltb most-time (shape .time)) _ e
+    none-of-five (ltb (shape .slots) 1) (ltb most-slots (shape .slots)) (ltb (shape .«load_time») 1) (ltb most-load-time (shape .«load_time»)) _ e
 
 -- Row 3.
 limits-words : (shape : Shape) → Says (λ d. (d ≡ 0) × OutsideLimits shape) 0 (badLimits shape)
@@ -101,8 +104,8 @@ limits-words shape = plainly (badLimits shape) to from
     to : OutsideLimits shape → badLimits shape ≡ false → ⊥
     to (no-slot h) e = held-and-failed _ (lt-ltb (shape .slots) 1 h) (limits-fail shape e .0)
     to (many-slots h) e = held-and-failed _ (lt-ltb most-slots (shape .slots) h) (limits-fail shape e .1)
-    to (no-time h) e = held-and-failed _ (lt-ltb (shape .time) 1 h) (limits-fail shape e .2)
-    to (long-time h) e = held-and-failed _ (lt-ltb most-time (shape .time) h) (limits-fail shape e .3)
+    to (no-time h) e = held-and-failed _ (lt-ltb (shape .«load_time») 1 h) (limits-fail shape e .2)
+    to (long-time h) e = held-and-failed _ (lt-ltb most-load-time (shape .«load_time») h) (limits-fail shape e .3)
     to (many-draws h) e = held-and-failed _ (lt-ltb most-draws (shape .draws) h) (limits-fail shape e .4)
 
     from : badLimits shape ≡ true → OutsideLimits shape
@@ -113,11 +116,11 @@ limits-words shape = plainly (badLimits shape) to from
         (λ e. either _ _ e
         (λ t. no-slot (ltb-true (shape .slots) 1 t))
         (λ t. many-slots (ltb-true most-slots (shape .slots) t)))
-        (λ t. no-time (ltb-true (shape .time) 1 t)))
-        (λ t. long-time (ltb-true most-time (shape .time) t)))
+        (λ t. no-time (ltb-true (shape .«load_time») 1 t)))
+        (λ t. long-time (ltb-true most-load-time (shape .«load_time») t)))
         (λ t. many-draws (ltb-true most-draws (shape .draws) t))
 
--- A doubled symbol stands in two places,
+-- A doubled symbol is in two places,
 doubled-so : (l : List ℕ) → doubled l ≡ true
     → (i j : ℕ) × (i < j) × (j < length l) × (getD l i 0 ≡ getD l j 0) × (getD l i 0 ≡ free → ⊥)
 unfolding doubled
@@ -130,7 +133,7 @@ doubled-so (x ∷ l) e =
     (0, suc (place x l), omega arith, omega arith, sym (place-holds x l inside), unlike x free symbol))
     (λ t. let (i, j, before, inside, same, symbol) = doubled-so l t in (suc i, suc j, omega arith, omega arith, same, symbol))
 
--- and one that stands in two places is doubled.
+-- and one that is in two places is doubled.
 so-doubled : (l : List ℕ) (i j : ℕ) → i < j → j < length l → getD l i 0 ≡ getD l j 0 → (getD l i 0 ≡ free → ⊥) → doubled l ≡ true
 unfolding doubled
 so-doubled [] i j before inside same symbol = absurd (omega arith)
@@ -213,7 +216,7 @@ low least events (suc i) = eventTick (eventAt events i) + 1
 abbrev Wrong : ℕ → List Event → ℕ → Type 0
 Wrong least events i = (last-tick < eventTick (eventAt events i)) ⊎ (eventTick (eventAt events i) < low least events i)
 
--- An event behind the first one is out of order in the list behind the first one,
+-- An event after the first one is out of order in the list without the first one,
 one-down : (least t q x : ℕ) (l : List Event) (i : ℕ) → Wrong least (event t q x ∷ l) (suc i) → Wrong (t + 1) l i
 one-down least t q x l zero w = w
 one-down least t q x l (suc i) w = w
@@ -307,31 +310,31 @@ lower-words a b = plainly (ltb a b) (λ h. held-and-failed (ltb a b) (lt-ltb a b
 unlike-words : (a b : ℕ) → Says (λ d. (d ≡ 0) × (a ≡ b → ⊥)) 0 (not (eqb a b))
 unlike-words a b = plainly (not (eqb a b)) (λ h. held-and-failed (not (eqb a b)) (is-unlike a b h)) (unlike a b)
 
-module _ (job : List ℕ) where
-  -- Rows 1 to 5, and what comes behind them.
-  with-job : (rows : List Row) (tests : List Test) → Agree rows tests → Agree (jobRows job ++ rows) (jobTests job ++ tests)
+module _ (asked : Call) where
+  -- Rows 1 to 5, and what comes after them.
+  with-job : (rows : List Row) (tests : List Test) → Agree rows tests → Agree (jobRows (asked .job) ++ rows) (jobTests (asked .job) ++ tests)
   unfolding jobTests
   with-job rows tests a =
-      more (length-words job)
-      (more (unlike-words (getD job 4 0) 1)
-      (more (limits-words (shapeOf job))
-      (more (unlike-words (number32 job 0) (6 + 2 * shapeOf job .slots + 2 * shapeOf job .draws))
-      (more (symbols-words (startingOf job) (drawsOf job)) a))))
+      more (length-words (asked .job))
+      (more (unlike-words (getD (asked .job) 4 0) 1)
+      (more (limits-words (shapeOf (asked .job)))
+      (more (unlike-words (number32 (asked .job) 0) (6 + 2 * shapeOf (asked .job) .slots + 2 * shapeOf (asked .job) .draws))
+      (more (symbols-words (startingSymbols (asked .job)) (drawnSymbols (asked .job))) a))))
 
   -- The table for a plan is the tests of the definition.
-  pub plan-words : (plan room : ℕ) → Agree (planRows job plan room) (lateTests job plan room)
+  pub plan-words : (plan room : ℕ) → Agree (planRows asked plan room) (lateTests asked plan room)
   unfolding jobTests shortPlan
   plan-words plan room =
       with-job _ _
       (more (lower-words 3 plan)
-      (more (lower-words room (head-size + event-size * length (drawsOf job)))
-      (more (late-words (runPlan (jobOf job) (ruleOf (jobOf job) plan))) end)))
+      (more (lower-words room (head-size + event-size * length (drawsOf asked)))
+      (more (late-words (runPlan (jobOf asked) (ruleOf (jobOf asked) plan))) end)))
 
   -- So is the table for a check, before time begins.
-  pub check-words : (list : List ℕ) (ticks slots : ℕ) → Agree (checkRows job list ticks slots) (checkTests job list ticks slots)
+  pub check-words : (list : List ℕ) (ticks slots : ℕ) → Agree (checkRows asked list ticks slots) (checkTests asked list ticks slots)
   unfolding shortCheck
   check-words list ticks slots =
       with-job _ _
       (more (list-words list)
-      (more (places-words (length (drawsOf job)) ticks slots)
+      (more (places-words (length (drawsOf asked)) ticks slots)
       (more (order-words (eventsOf list)) end)))

@@ -6,7 +6,7 @@ use lib.ListN.{length, getD, take}
 use Rattle.rules.specs.declared.Answer.{Answer}
 use Rattle.rules.specs.declared.JobReading.the-variants.{Taken}
 use Rattle.rules.specs.declared.ListReading.the-variants.{Listed}
-use Rattle.rules.specs.Job.{Job, free, shapeOf, drawsOf, jobOf}
+use Rattle.rules.specs.Job.{Call, Job, free, shapeOf, drawsOf, jobOf}
 use Rattle.rules.specs.LoadList.{Event, event, countOf, eventsOf}
 use Rattle.rules.specs.Refusals.{readJob, readList, firstBadTick}
 use Rattle.demands.specs.Held.{held, Sheet}
@@ -31,7 +31,7 @@ eventAt events i = getD events i (event 0 0 0)
 --     unheld     by the events before it, no slot holds that symbol at its tick
 --     in-time    its tick comes before the sheet is over
 pub record MayBegin (job : Job) (events : List Event) (i end : ℕ) : Type 0 where
-  pub idle : (j : ℕ) → j < i → eventTick (eventAt events j) + job .time ≤ eventTick (eventAt events i)
+  pub idle : (j : ℕ) → j < i → eventTick (eventAt events j) + job .load-time ≤ eventTick (eventAt events i)
   pub slot : eventSlot (eventAt events i) < job .slots
   pub symbol : eventSymbol (eventAt events i) ≡ free → ⊥
   pub unheld : (r : ℕ) → r < job .slots → held job (take i events) (eventTick (eventAt events i)) r ≡ eventSymbol (eventAt events i) → ⊥
@@ -39,13 +39,13 @@ pub record MayBegin (job : Job) (events : List Event) (i end : ℕ) : Type 0 whe
 
 -- A sheet is right for the bytes of a job and a list and for the places lent: job and list can be read, the places suffice, the events
 -- are in order, each may begin, and each draw is made as it must be.
-pub record Right (job list : List ℕ) (tick-places slot-places : ℕ) (ticks slots : List ℕ) (answer : Answer) : Type 0 where
-  pub job-taken : readJob job ≡ Taken (shapeOf job)
+pub record Right (asked : Call) (list : List ℕ) (tick-places slot-places : ℕ) (ticks slots : List ℕ) (answer : Answer) : Type 0 where
+  pub job-taken : readJob (asked .job) ≡ Taken (shapeOf (asked .job))
   pub list-read : readList list ≡ Listed (countOf list)
-  pub tick-room : length (drawsOf job) ≤ tick-places
-  pub slot-room : length (drawsOf job) ≤ slot-places
+  pub tick-room : length (drawsOf asked) ≤ tick-places
+  pub slot-room : length (drawsOf asked) ≤ slot-places
   pub in-order : firstBadTick 0 (eventsOf list) ≡ length (eventsOf list)
-  pub may-begin : (i : ℕ) → i < length (eventsOf list) → MayBegin (jobOf job) (eventsOf list) i (answer .elapsed)
-  pub sheet : Sheet (jobOf job) (eventsOf list) ticks slots answer
+  pub may-begin : (i : ℕ) → i < length (eventsOf list) → MayBegin (jobOf asked) (eventsOf list) i (answer .elapsed)
+  pub sheet : Sheet (jobOf asked) (eventsOf list) ticks slots answer
   pub number : answer .number ≡ 0
   pub detail : answer .detail ≡ 0

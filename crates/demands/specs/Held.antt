@@ -33,7 +33,7 @@ leaves starting time t (last u x) = cond (leb (u + time) t) x free
 
 -- What slot q holds at tick t of a job with this list.
 abbrev pub held : Job → List Event → ℕ → ℕ → ℕ
-held job events t q = leaves (getD (job .starting) q 0) (job .time) t (lastLoad q t events)
+held job events t q = leaves (getD (job .starting) q 0) (job .load-time) t (lastLoad q t events)
 
 -- A draw of symbol x, looked for from a tick on, at tick t and from slot q.
 --     holds      the slot holds the symbol at that tick
@@ -65,13 +65,13 @@ pub record Sheet (job : Job) (events : List Event) (ticks slots : List ℕ) (ans
   pub waits : answer .waits + length (job .draws) ≡ answer .elapsed
   pub loads : answer .loads ≡ length events
 
--- How many loads of a list have ended on a sheet with so many ticks: a load begun at tick t ends in tick t + F, if the sheet has that tick.
+-- How many loads of a list have ended on a sheet that took this many ticks: a load begun at tick t ends in tick t + F, if the sheet has that tick.
 unfoldable pub endedBy : ℕ → ℕ → List Event → ℕ
 endedBy time elapsed [] = 0
 endedBy time elapsed (event t q x ∷ later) = cond (ltb (t + time) elapsed) 1 0 + endedBy time elapsed later
 
 -- Row e of document 01: slot 1 of job a holds symbol 2, then nothing from tick 2 on, when the load begins, and symbol 3 from tick 6 on.
-row-e : map (λ t. held (record { slots = 2; time = 4; starting = 1 ∷ 2 ∷ []; draws = 1 ∷ 2 ∷ 3 ∷ 1 ∷ [] }) (event 2 1 3 ∷ []) t 1)
+row-e : map (λ t. held (record { slots = 2; load-time = 4; starting = 1 ∷ 2 ∷ []; draws = 1 ∷ 2 ∷ 3 ∷ 1 ∷ [] }) (event 2 1 3 ∷ []) t 1)
     (0 ∷ 1 ∷ 2 ∷ 3 ∷ 4 ∷ 5 ∷ 6 ∷ 7 ∷ [])
     ≡ 2 ∷ 2 ∷ free ∷ free ∷ free ∷ free ∷ 3 ∷ 3 ∷ []
 unfolding lastLoad

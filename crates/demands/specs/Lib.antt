@@ -1,5 +1,6 @@
 pub mod Held
+pub mod Causes
 pub mod Fair
 pub mod Table
-pub mod Promises
 pub mod TwoRocks
+pub mod InWords

@@ -9,7 +9,7 @@ use lib.ListN.{length, getD, drop}
 use Rattle.rules.specs.declared.MaybeLoad.the-variants.{Load}
 use Rattle.rules.specs.declared.Shape.{Shape}
 use Rattle.rules.specs.Basics.{stands, number32}
-use Rattle.rules.specs.Job.{Job, free, most-slots, most-time, most-draws, shapeOf, startingOf, drawsOf, jobOf}
+use Rattle.rules.specs.Job.{Call, Job, free, most-slots, most-load-time, most-draws, shapeOf, startingSymbols, drawnSymbols, drawsOf, jobOf}
 use Rattle.rules.specs.LoadList.{Event, most-events, last-tick, head-size, event-size, countOf, eventsOf}
 use Rattle.rules.specs.Display.{State, Run, going, start, land, idle, awaited, finished, run}
 use Rattle.rules.specs.Plans.{last-plan, ruleOf, runPlan}
@@ -45,11 +45,11 @@ pub data JobLengthWrong (job : List ℕ) : Type 0 where
 pub data OutsideLimits (shape : Shape) : Type 0 where
   no-slot : shape .slots < 1 → OutsideLimits shape
   many-slots : most-slots < shape .slots → OutsideLimits shape
-  no-time : shape .time < 1 → OutsideLimits shape
-  long-time : most-time < shape .time → OutsideLimits shape
+  no-time : shape .«load_time» < 1 → OutsideLimits shape
+  long-time : most-load-time < shape .«load_time» → OutsideLimits shape
   many-draws : most-draws < shape .draws → OutsideLimits shape
 
--- 5. A symbol stands in two starting slots, or the mark of a free slot is drawn.
+-- 5. A symbol is in two starting slots, or the mark of a free slot is drawn.
 pub data SymbolsWrong (starting draws : List ℕ) : Type 0 where
   twice : (i j : ℕ) → i < j → j < length starting → getD starting i 0 ≡ getD starting j 0 → (getD starting i 0 ≡ free → ⊥)
       → SymbolsWrong starting draws
@@ -62,7 +62,7 @@ jobRows job =
     ∷ plain 2 (getD job 4 0 ≡ 1 → ⊥)
     ∷ plain 3 (OutsideLimits (shapeOf job))
     ∷ plain 4 (number32 job 0 ≡ 6 + 2 * shapeOf job .slots + 2 * shapeOf job .draws → ⊥)
-    ∷ plain 5 (SymbolsWrong (startingOf job) (drawsOf job))
+    ∷ plain 5 (SymbolsWrong (startingSymbols job) (drawnSymbols job))
     ∷ []
 
 -- ---- Rows 6, 7 and 15: a plan
@@ -72,12 +72,12 @@ abbrev pub Late : Run → Type 0
 Late r = (s : State) → r ≡ going s → finished (s .rest) ≡ true → ⊥
 
 -- The order for a plan: 1 to 5, then 6, a number above 3, then 7, less room than 7 + 7n bytes, then 15.
-abbrev pub planRows : List ℕ → ℕ → ℕ → List Row
-planRows job plan room =
-    jobRows job
+abbrev pub planRows : Call → ℕ → ℕ → List Row
+planRows asked plan room =
+    jobRows (asked .job)
     ++ (plain 6 (last-plan < plan)
-    ∷ plain 7 (room < head-size + event-size * length (drawsOf job))
-    ∷ plain 15 (Late (runPlan (jobOf job) (ruleOf (jobOf job) plan)))
+    ∷ plain 7 (room < head-size + event-size * length (drawsOf asked))
+    ∷ plain 15 (Late (runPlan (jobOf asked) (ruleOf (jobOf asked) plan)))
     ∷ [])
 
 -- ---- Rows 7 to 9: a check, before time begins
@@ -113,11 +113,11 @@ pub record FirstOutOfOrder (events : List Event) (i : ℕ) : Type 0 where
   pub first : (j : ℕ) → j < i → OutOfOrder events j → ⊥
 
 -- The order for a check, before time begins: 1 to 5, then 8, 7, and 9 over the whole list.
-abbrev pub checkRows : List ℕ → List ℕ → ℕ → ℕ → List Row
-checkRows job list ticks slots =
-    jobRows job
+abbrev pub checkRows : Call → List ℕ → ℕ → ℕ → List Row
+checkRows asked list ticks slots =
+    jobRows (asked .job)
     ++ (plain 8 (ListWrong list)
-    ∷ plain 7 (PlacesShort (length (drawsOf job)) ticks slots)
+    ∷ plain 7 (PlacesShort (length (drawsOf asked)) ticks slots)
     ∷ row 9 (FirstOutOfOrder (eventsOf list))
     ∷ [])
 
@@ -144,7 +144,7 @@ pub data Refuses (job : Job) (events : List Event) (s : State) : ℕ → ℕ →
   endless : idle (land s .loading) ≡ true → stands (awaited s) (land s .slots) ≡ false → length events ≤ s .loads
       → Refuses job events s 13 (s .next)
 
--- Time meets such a row: after so many ticks, none of them refused, draws remain and the next tick is refused.
+-- Time meets such a row: after some ticks, none of them refused, draws remain and the next tick is refused.
 pub record Met (job : Job) (events : List Event) (n d : ℕ) : Type 0 where
   pub ticks : ℕ
   pub state : State
@@ -152,7 +152,7 @@ pub record Met (job : Job) (events : List Event) (n d : ℕ) : Type 0 where
   pub more : finished (state .rest) ≡ false
   pub refuses : Refuses job events state n d
 
--- Row 14: after so many ticks all draws are done and event d is left, the first one left.
+-- Row 14: after some ticks all draws are done and event d is left, the first one left.
 pub record LeftOver (job : Job) (events : List Event) (d : ℕ) : Type 0 where
   pub ticks : ℕ
   pub state : State
@@ -162,7 +162,7 @@ pub record LeftOver (job : Job) (events : List Event) (d : ℕ) : Type 0 where
   pub first : state .loads ≡ d
 
 -- The whole order for a check: the rows before time begins; where none of them holds, 10 to 13 as time meets them; 14 at the end.
-pub data Given (job list : List ℕ) (ticks slots : ℕ) : ℕ → ℕ → Type 0 where
-  at-once : {n d : ℕ} → Gives (checkRows job list ticks slots) n d → Given job list ticks slots n d
-  in-time : {n d : ℕ} → Quiet (checkRows job list ticks slots) → Met (jobOf job) (eventsOf list) n d → Given job list ticks slots n d
-  at-the-end : {d : ℕ} → Quiet (checkRows job list ticks slots) → LeftOver (jobOf job) (eventsOf list) d → Given job list ticks slots 14 d
+pub data Given (asked : Call) (list : List ℕ) (ticks slots : ℕ) : ℕ → ℕ → Type 0 where
+  at-once : {n d : ℕ} → Gives (checkRows asked list ticks slots) n d → Given asked list ticks slots n d
+  in-time : {n d : ℕ} → Quiet (checkRows asked list ticks slots) → Met (jobOf asked) (eventsOf list) n d → Given asked list ticks slots n d
+  at-the-end : {d : ℕ} → Quiet (checkRows asked list ticks slots) → LeftOver (jobOf asked) (eventsOf list) d → Given asked list ticks slots 14 d

@@ -4,7 +4,7 @@ use Prim.Native.Nat.{ℕ}
 use mathlib.Core.Path.{_≡_, refl}
 use mathlib.Core.List.{List, [], _∷_}
 use Rattle.rules.specs.Basics.{place}
-use Rattle.rules.specs.Job.{symbols}
+use Rattle.rules.specs.Job.{symbols, call}
 use Rattle.rules.specs.LoadList.{event, eventsIn, eventsBytes, listBytes}
 use Rattle.rules.specs.Display.{Run, run, tick, beginning, happened}
 use Rattle.rules.specs.Refusals.{checked, due, firstBadTick, doubled, answerOf, ticksOf, slotsOf}
@@ -26,7 +26,7 @@ sheet = jobBytes 3 (submerged ∷ light ∷ []) (submerged ∷ light ∷ submerg
 
 -- The dry rock is loaded into the submerged rock's slot, from a tick on.
 abbrev loadedFrom : ℕ → Run
-loadedFrom t = checked sheet (listBytes (event t 0 dry ∷ [])) 4 4
+loadedFrom t = checked (call sheet) (listBytes (event t 0 dry ∷ [])) 4 4
 
 -- The slot is taken a tick early, in the very tick in which the last submerged rock is to be drawn: that draw, number 2, is refused.
 taken-too-early : numbers (answerOf (loadedFrom 2)) ≡ refuses 13 2

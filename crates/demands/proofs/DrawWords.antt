@@ -1,0 +1,132 @@
+-- Next draws and last draws in words, and the rows that the plans look along: what a search along a row finds is what the words say.
+use Prim.Native.Nat.{ℕ, _+_, _-_, _<_, _≤_}
+use native.Mathlib.Omega.{arith}
+use mathlib.Core.Path.{_≡_, sym, _∙_}
+use mathlib.Core.List.{List, reverse}
+use lib.ListN.{length, getD, take, drop, length-drop, length-reverse}
+use lib.Seq.{getD-drop, getD-take, length-take-le}
+use lib.Dec.{ltb}
+use borrow.Author.Tests.{ltb-true, ltb-false}
+use Rattle.laws.proofs.Rows.{getD-reverse}
+use Rattle.rules.specs.Basics.{place}
+use Rattle.laws.proofs.Cases.{by-test}
+use Rattle.laws.proofs.Search.{place-holds, place-first}
+use Rattle.demands.specs.InWords.{Undrawn, NextDraw, NeverAgain, Later, LastDraw, NotYet, Older}
+use Rattle.demands.proofs.SlotWords.{Tells}
+
+-- ---- One next draw and one last draw
+
+module _ (draws : List ℕ) (next : ℕ) where
+  -- A symbol has one next draw at most.
+  next-most : (x i j : ℕ) → NextDraw draws next x i → NextDraw draws next x j → i ≤ j
+  next-most x i j a b = by-test (ltb j i) (λ t. absurd (a .first j (b .from) (ltb-true j i t) (b .here))) (ltb-false j i)
+
+  next-one : (x i j : ℕ) → NextDraw draws next x i → NextDraw draws next x j → i ≡ j
+  next-one x i j a b = omega (arith, next-most x i j a b, next-most x j i b a)
+
+  -- It has one last draw at most.
+  last-least : (x i j : ℕ) → LastDraw draws next x i → LastDraw draws next x j → j ≤ i
+  last-least x i j a b = by-test (ltb i j) (λ t. absurd (a .last j (omega (arith, ltb-true i j t)) (b .before) (b .here))) (ltb-false i j)
+
+  last-one : (x i j : ℕ) → LastDraw draws next x i → LastDraw draws next x j → i ≡ j
+  last-one x i j a b = omega (arith, last-least x i j a b, last-least x j i b a)
+
+  -- So of two symbols only one is later, and only one older.
+  pub later-one-way : (x y : ℕ) → Later draws next x y → Later draws next y x → ⊥
+  later-one-way x y a b =
+      omega (arith, a .larger, b .larger, next-one x (a .i) (b .j) (a .one) (b .other), next-one y (b .i) (a .j) (b .one) (a .other))
+
+  pub older-one-way : (x y : ℕ) → Older draws next x y → Older draws next y x → ⊥
+  older-one-way x y a b =
+      omega (arith, a .longer-ago, b .longer-ago, last-one x (a .i) (b .j) (a .one) (b .other), last-one y (b .i) (a .j) (b .one) (a .other))
+
+  -- ---- The draws that remain
+
+  module _ (within : next ≤ length draws) where
+    size-ahead : length (drop next draws) ≡ length draws - next
+    size-ahead = length-drop next draws
+
+    -- A symbol that comes up along them at a place or later is undrawn before that place.
+    pub far-undrawn : (x to : ℕ) → to ≤ next + place x (drop next draws) → Undrawn draws next to x
+    far-undrawn x to far i from less (inside, here) =
+        let back : next + (i - next) ≡ i = omega arith in
+        let there : getD (drop next draws) (i - next) 0 ≡ x = getD-drop next draws (i - next) 0 ∙ rw back here in
+        omega (arith, size-ahead, place-first x (drop next draws) (i - next) (omega (arith, size-ahead)) there)
+
+    -- A symbol that comes up along them has its next draw there.
+    pub next-found : (x : ℕ) → place x (drop next draws) < length (drop next draws)
+        → NextDraw draws next x (next + place x (drop next draws))
+    next-found x found =
+        record {
+          from = omega arith;
+          here = (omega (arith, size-ahead), sym (getD-drop next draws (place x (drop next draws)) 0) ∙ place-holds x (drop next draws) found);
+          first = far-undrawn x (next + place x (drop next draws)) (omega arith);
+        }
+
+    -- A symbol that is undrawn before a place comes up there or later.
+    pub undrawn-far : (x to : ℕ) → to ≤ length draws → Undrawn draws next to x → to ≤ next + place x (drop next draws)
+    undrawn-far x to most none =
+        by-test (ltb (next + place x (drop next draws)) to)
+        (λ t.
+        let less : next + place x (drop next draws) < to = ltb-true _ _ t in
+        let n : NextDraw draws next x (next + place x (drop next draws)) = next-found x (omega (arith, size-ahead)) in
+        absurd (none (next + place x (drop next draws)) (omega arith) less (n .here)))
+        (ltb-false _ _)
+
+    -- So they tell what is never drawn again, and which of two next draws is larger.
+    pub ahead-tells : Tells (drop next draws) (NeverAgain draws next) (Later draws next)
+    ahead-tells =
+        record {
+          never = λ x far. far-undrawn x (length draws) (omega (arith, size-ahead));
+          absent = λ x none. omega (arith, size-ahead, undrawn-far x (length draws) (omega arith) none);
+          further = λ x y more found.
+              record { i = _; j = _; one = next-found x found; other = next-found y (omega arith); larger = omega arith };
+        }
+
+-- ---- The draws made, the latest first
+
+module _ (draws : List ℕ) (next : ℕ) (within : next ≤ length draws) where
+  abbrev made : List ℕ
+  made = reverse (take next draws)
+
+  size-made : length made ≡ next
+  size-made = length-reverse (take next draws) ∙ length-take-le next draws within
+
+  -- The draw made i draws before the latest.
+  made-at : (i : ℕ) → i < next → getD made i 0 ≡ getD draws (next - 1 - i) 0
+  made-at i less =
+      let size : length (take next draws) ≡ next = length-take-le next draws within in
+      getD-reverse (take next draws) i (omega arith) ∙ rw size (getD-take next draws (next - 1 - i) 0 (omega arith))
+
+  -- A symbol that comes up along them at a place or later is undrawn since.
+  back-undrawn : (x from : ℕ) → next ≤ from + place x made → Undrawn draws from next x
+  back-undrawn x from far i after less (inside, here) =
+      let back : next - 1 - (next - 1 - i) ≡ i = omega arith in
+      let there : getD made (next - 1 - i) 0 ≡ x = made-at (next - 1 - i) (omega arith) ∙ rw back here in
+      omega (arith, size-made, place-first x made (next - 1 - i) (omega (arith, size-made)) there)
+
+  -- A symbol that comes up along them has its last draw there.
+  last-found : (x : ℕ) → place x made < length made → LastDraw draws next x (next - 1 - place x made)
+  last-found x found =
+      let less : place x made < next = omega (arith, size-made) in
+      record {
+        before = omega arith;
+        here = (omega arith, sym (made-at (place x made) less) ∙ place-holds x made found);
+        last = back-undrawn x (next - 1 - place x made + 1) (omega arith);
+      }
+
+  -- So they tell what is not yet drawn, and which of two last draws is longer ago.
+  pub behind-tells : Tells made (NotYet draws next) (Older draws next)
+  behind-tells =
+      record {
+        never = λ x far. back-undrawn x 0 (omega (arith, size-made));
+        absent = λ x none.
+            by-test (ltb (place x made) (length made))
+            (λ t.
+            let found : place x made < length made = ltb-true _ _ t in
+            let l : LastDraw draws next x (next - 1 - place x made) = last-found x found in
+            absurd (none (next - 1 - place x made) (omega arith) (l .before) (l .here)))
+            (ltb-false _ _);
+        further = λ x y more found.
+            record { i = _; j = _; one = last-found x found; other = last-found y (omega arith); longer-ago = omega (arith, size-made) };
+      }
