@@ -1,4 +1,4 @@
--- A run of the code on its way, by whatever rule: what holds between two ticks, where it leads, and what a tick and the waits behind it keep.
+-- A run of the code on its way, by any rule: what holds between two ticks, where it leads, and what a tick and the waits after it keep.
 use Prim.Native.Nat.{ℕ, suc, _+_, _-_, _≤_, _<_}
 use native.Mathlib.Omega.{arith}
 use mathlib.Core.Path.{_≡_, refl, sym, ap, _∙_}
@@ -67,9 +67,11 @@ module _ (job : Job) (rule : Rule) (limit : ℕ) where
 
   module _ (slots : List ℕ) (d : Display) (h : History) (g : Going slots d h) where
     -- It ends where no draw remains, or where no tick is left.
+    pub going-done : length (job .draws) ≤ d .next → finished (h .rest) ≡ true
+    going-done over = ap finished (g .rest ∙ drop-of-length-le (job .draws) over)
+
     pub going-over : length (job .draws) ≤ d .next → run job rule limit (start job) ≡ going (view slots h d)
-    going-over over =
-        sym (g .whole) ∙ run-finished job rule (limit - d .tick) (view slots h d) (ap finished (g .rest ∙ drop-of-length-le (job .draws) over))
+    going-over over = sym (g .whole) ∙ run-finished job rule (limit - d .tick) (view slots h d) (going-done over)
 
     pub going-late : limit ≤ d .tick → run job rule limit (start job) ≡ going (view slots h d)
     unfolding run
@@ -107,17 +109,17 @@ module _ (job : Job) (rule : Rule) (limit : ℕ) where
               (begun-rest d (r .on_record .begun) h ∙ g .rest)
               ∙ ap (λ (n : ℕ). drop n (job .draws)) (sym (counts .next))
 
-          -- Behind a wait the draw that is awaited is the same as before it.
+          -- After a wait the draw that is awaited is the same as before it.
           same-rest : 0 < rested .many → h′ .rest ≡ h .rest
           same-rest some =
               rest′
-              ∙ ap (λ (n : ℕ). drop n (job .draws)) (counts .next ∙ waits-there (r .on_record .happening) (d .next) (rested .behind some))
+              ∙ ap (λ (n : ℕ). drop n (job .draws)) (counts .next ∙ waits-there (r .on_record .happening) (d .next) (rested .after-wait some))
               ∙ sym (g .rest)
 
           absent : 0 < rested .many → stands (getD (h′ .rest) 0 0) slots′ ≡ false
           absent some =
               rw (same-rest some, g .rest)
-              (waits-missed (r .on_record .happening) (getD (drop (d .next) (job .draws)) 0 0) slots′ (rested .behind some) (ticks .waits went))
+              (waits-missed (r .on_record .happening) (getD (drop (d .next) (job .draws)) 0 0) slots′ (rested .after-wait some) (ticks .waits went))
 
           whole′ : run job rule (limit - (r .display .tick + rested .many)) (view slots′ h′ (passed (rested .many) (r .display)))
               ≡ run job rule limit (start job)

@@ -1,7 +1,9 @@
 pub mod Views
 pub mod Loads
 pub mod Ticks
+pub mod Keeps
 pub mod Landed
 pub mod Steps
 pub mod Stretches
 pub mod Going
+pub mod NoSecond

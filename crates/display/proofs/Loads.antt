@@ -20,11 +20,11 @@ pub busy : (until q x : ℕ) → not (eqb until 0) ≡ not (idle (loadingOf unti
 busy zero q x = refl
 busy (suc left) q x = rw (ne-eqb (suc left) 0 (λ e. omega arith))
 
--- A number is not below another where the other is at most it.
+-- b is at most a exactly where a is not below b.
 pub not-below : (a b : ℕ) → leb b a ≡ not (ltb a b)
 not-below a b = by-test (ltb a b) (λ t. rw (t, lt-leb b a (ltb-true a b t))) (λ t. rw (t, le-leb b a (ltb-false a b t)))
 
--- The slots that may be named are as many as the display has.
+-- A load may go into the slots below the number of slots, which the code has by their length.
 pub in-slots : (job : Job) (r : Bool) (k q : ℕ) → job .slots ≡ k → r ≡ not (ltb q k) → r ≡ not (loadable job q)
 in-slots job r k q same e = rw same e
 

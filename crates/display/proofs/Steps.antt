@@ -1,7 +1,5 @@
--- The three steps of a tick of the code, one after the other, are a tick of the rules, by whatever rule the load was asked for.
-use Prim.Native.Nat.{ℕ, _+_, _≤_}
-use native.Mathlib.Nat.{le-of-eq}
-use native.Mathlib.Omega.{arith}
+-- The three steps of a tick of the code, one after the other, are a tick of the rules, by any rule.
+use Prim.Native.Nat.{ℕ}
 use mathlib.Core.Path.{_≡_, refl, sym, ap, _∙_}
 use mathlib.Core.Bool.{Bool, false, cond}
 use mathlib.Core.List.{List, [], _∷_, _++_}
@@ -16,15 +14,14 @@ use Rattle.rules.specs.declared.TickRecord.{TickRecord}
 use Rattle.rules.specs.Basics.{stands}
 use Rattle.rules.specs.Job.{Job}
 use Rattle.rules.specs.Order.{Verdict}
-use Rattle.rules.specs.Display.{State, Run, Rule, drawn, going, refused, unless, then, land, begin, beginning, happeningOf, happened, recordOf, stuck, tick}
+use Rattle.rules.specs.Display.{State, Run, Rule, drawn, going, refused, unless, then, begin, beginning, happeningOf, happened, recordOf, stuck, tick}
 use Rattle.laws.proofs.Cases.{by-test}
 use Rattle.laws.proofs.Moves.{load-clear, load-met}
 use Rattle.display.specs.declared.state.Display.{Display}
 use Rattle.display.specs.declared.tick.Ticked.{Ticked}
-use Rattle.display.specs.View.{History, view, awaiting, begunBy, historyBegun, historyMade, onward}
-use Rattle.display.specs.Tick.{Room, DrawnOrWaited, Ticks, askedRefusal, leads, missed}
-use Rattle.display.proofs.Ticks.{later-counts}
-use Rattle.display.proofs.Landed.{landed-tick, landed-next, landed-waits, landed-loads}
+use Rattle.display.specs.View.{History, view, awaiting, begunBy, historyBegun, historyMade, onward, Lands}
+use Rattle.display.specs.Tick.{DrawnOrWaited, Ticks, askedRefusal, leads, missed}
+use Rattle.display.proofs.Keeps.{LandKeeps, BeginKeeps, land-keeps, begin-keeps, tick-counts}
 
 -- ---- Step 2
 
@@ -38,22 +35,6 @@ beginning-halts : (job : Job) (asked : MaybeLoad) (s : State) → (askedRefusal 
 unfolding beginning
 beginning-halts job NoLoad s some = absurd (some refl)
 beginning-halts job (Load q x) s some = ap (λ (v : Verdict). unless v (going (begin job q x s))) (load-met job q x s some)
-
-begun-tick : (job : Job) (asked : MaybeLoad) (s : State) → begunBy job asked s .tick ≡ s .tick
-begun-tick job NoLoad s = refl
-begun-tick job (Load q x) s = refl
-
-begun-next : (job : Job) (asked : MaybeLoad) (s : State) → begunBy job asked s .next ≡ s .next
-begun-next job NoLoad s = refl
-begun-next job (Load q x) s = refl
-
-begun-waits : (job : Job) (asked : MaybeLoad) (s : State) → begunBy job asked s .waits ≡ s .waits
-begun-waits job NoLoad s = refl
-begun-waits job (Load q x) s = refl
-
-begun-loads : (job : Job) (asked : MaybeLoad) (s : State) → begunBy job asked s .loads ≤ s .loads + 1
-begun-loads job NoLoad s = omega arith
-begun-loads job (Load q x) s = le-of-eq refl
 
 -- In a tick in which a load begins no wait is stuck, so it does not matter when the rule is asked whether it is done.
 never-stuck : (job : Job) (q x : ℕ) (s : State) (done : Bool) → stuck (happeningOf (begin job q x s)) done ≡ false
@@ -69,7 +50,7 @@ unfolding happened
 late-done job NoLoad s done ends e = rw e
 late-done job (Load q x) s done ends e = rw (never-stuck job q x s done, never-stuck job q x s (ends (begin job q x s)))
 
--- ---- What stands beside the display
+-- ---- What is beside the display
 
 same-begun : (d l : Display) (asked : MaybeLoad) (h : History) → l .tick ≡ d .tick → l .next ≡ d .next → historyBegun d asked h ≡ historyBegun l asked h
 same-begun d l NoLoad h t n = refl
@@ -95,7 +76,7 @@ missed-of asked x slots d = by-test (stands x slots) (λ held. rw held tt) (λ a
 -- ---- The tick
 
 module _ (job : Job) (rule : Rule) (slots slots₁ : List ℕ) (d l : Display)
-    (lands : (h : History) → view slots₁ h l ≡ land (view slots h d)) (asked : MaybeLoad)
+    (lands : Lands slots d slots₁ l) (asked : MaybeLoad)
     (asks : (h : History) → h .rest ≡ drop (d .next) (job .draws) → asked ≡ rule .asks (view slots₁ h l)) (number : ℕ)
     (numbered : (h : History) → number ≡ askedRefusal job asked (view slots₁ h l)) where
   -- The tick of the rules, from the landed display on.
@@ -127,30 +108,11 @@ module _ (job : Job) (rule : Rule) (slots slots₁ : List ℕ) (d l : Display)
 
   module _ (none : number ≡ 0) (slots₂ : List ℕ) (b : Display)
       (begins : (h : History) → view slots₂ (historyBegun l asked h) b ≡ begunBy job asked (view slots₁ h l)) where
-    empty : History
-    empty = record { rest = []; made = []; begun = [] }
+    landed : LandKeeps d l
+    landed = land-keeps slots slots₁ d l lands
 
-    begun-tick′ : b .tick ≡ l .tick
-    begun-tick′ = ap (λ (s : State). s .tick) (begins empty) ∙ begun-tick job asked (view slots₁ empty l)
-
-    begun-next′ : b .next ≡ l .next
-    begun-next′ = ap (λ (s : State). s .next) (begins empty) ∙ begun-next job asked (view slots₁ empty l)
-
-    begun-waits′ : b .waits ≡ l .waits
-    begun-waits′ = ap (λ (s : State). s .waits) (begins empty) ∙ begun-waits job asked (view slots₁ empty l)
-
-    begun-loads′ : b .loads ≤ l .loads + 1
-    begun-loads′ =
-        let same : b .loads ≡ begunBy job asked (view slots₁ empty l) .loads = ap (λ (s : State). s .loads) (begins empty) in
-        let few : begunBy job asked (view slots₁ empty l) .loads ≤ l .loads + 1 = begun-loads job asked (view slots₁ empty l) in
-        omega arith
-
-    pub room-begun : Room l → Room b
-    room-begun room =
-        let tick′ : b .tick ≡ l .tick = begun-tick′ in
-        let next′ : b .next ≡ l .next = begun-next′ in
-        let waits′ : b .waits ≡ l .waits = begun-waits′ in
-        record { tick = omega arith; next = omega arith; waits = omega arith }
+    begun : BeginKeeps l b
+    begun = begin-keeps job asked slots₁ slots₂ l b begins
 
     module _ (symbol : ℕ) (awaits : getD (drop (d .next) (job .draws)) 0 0 ≡ symbol) (done : Bool)
         (ends : (h : History) → rule .done (view slots₁ h l) ≡ done) (r : Ticked) (settled : DrawnOrWaited slots₂ b asked symbol done r) where
@@ -159,23 +121,15 @@ module _ (job : Job) (rule : Rule) (slots slots₁ : List ℕ) (d l : Display)
 
       same-onward : (h : History) → onward d (r .on_record) h ≡ historyMade b (r .on_record .happening) (historyBegun l asked h)
       same-onward h =
-          let same-tick : b .tick ≡ d .tick = begun-tick′ ∙ landed-tick slots slots₁ d l lands in
           ap (λ (x : MaybeLoad). historyMade d (r .on_record .happening) (historyBegun d x h)) same-asked
-          ∙ ap (historyMade d (r .on_record .happening))
-          (same-begun d l asked h (landed-tick slots slots₁ d l lands) (landed-next slots slots₁ d l lands))
-          ∙ same-made d b (r .on_record .happening) (historyBegun l asked h) same-tick
+          ∙ ap (historyMade d (r .on_record .happening)) (same-begun d l asked h (landed .tick) (landed .next))
+          ∙ same-made d b (r .on_record .happening) (historyBegun l asked h) (begun .tick ∙ landed .tick)
 
       pub ticks-went : Ticks job rule slots slots₂ d r
       ticks-went =
           record {
-            counts = λ went.
-                let loads′ : l .loads ≡ d .loads = landed-loads slots slots₁ d l lands in
-                let more : b .loads ≤ l .loads + 1 = begun-loads′ in
-                later-counts 1 0 (r .on_record .happening) d b (r .display) (begun-tick′ ∙ landed-tick slots slots₁ d l lands)
-                (begun-next′ ∙ landed-next slots slots₁ d l lands) (begun-waits′ ∙ landed-waits slots slots₁ d l lands) (omega arith)
-                (settled .counts went);
-            waits = λ went.
-                rw (awaits, settled .recorded) (missed-of asked symbol slots₂ b);
+            counts = λ went. tick-counts landed begun (settled .counts went);
+            waits = λ went. rw (awaits, settled .recorded) (missed-of asked symbol slots₂ b);
             run = λ h remain.
                 let here : State = view slots₁ h l in
                 same-leads slots₂ (λ t. onward d t h) (λ t. historyMade b (t .happening) (historyBegun l asked h)) r (same-onward h)

@@ -1,4 +1,4 @@
--- A stretch of waits at once: so many ticks of a run in which nothing lands, begins or is drawn lead to the display that many ticks on.
+-- A stretch of waits at once: ticks of a run in which nothing lands, begins or is drawn lead to the display that many ticks later.
 use Prim.Native.Nat.{ℕ, zero, suc, _+_, _-_, _≤_, _<_}
 use native.Mathlib.Omega.{arith}
 use mathlib.Core.Path.{_≡_, refl, sym, ap, _∙_}
@@ -16,15 +16,16 @@ use Rattle.laws.proofs.Cases.{by-test}
 use Rattle.laws.proofs.Runs.{run-unfinished}
 use Rattle.display.specs.declared.state.Display.{Display}
 use Rattle.display.specs.View.{History, loadingOf, view}
+use Rattle.display.specs.Moves.{nearer}
 use Rattle.display.specs.Still.{passed, Rested}
-use Rattle.display.proofs.Views.{nearer, nearer-lands}
+use Rattle.display.proofs.Views.{nearer-lands}
 
 -- A wait is not stuck while a load is under way, nor while the rule is not done.
 not-stuck : (until q y x : ℕ) (done : Bool) → (until ≡ 0 → done ≡ false) → stuck (Wait (causeOf (loadingOf until q y) x)) done ≡ false
 not-stuck zero q y x done goes-on = goes-on refl
 not-stuck (suc left) q y x done goes-on = by-test (eqb x y) (λ same. rw same) (λ other. rw other)
 
--- No stretch at all, behind whatever happened.
+-- No stretch at all, whatever happened.
 pub rested-none : (quiet : ℕ → Type 0) (limit : ℕ) (happening : Happening) (d : Display) → d .tick ≤ limit → quiet 0
     → Rested quiet limit happening d d
 rested-none quiet limit happening d early still =
@@ -35,7 +36,7 @@ rested-none quiet limit happening d early still =
       many = 0;
       passes = rw (ticks, waits, until);
       in-time = omega arith;
-      behind = λ some. absurd (omega arith);
+      after-wait = λ some. absurd (omega arith);
       still = still;
     }
 

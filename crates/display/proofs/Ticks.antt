@@ -1,7 +1,7 @@
--- Step 3 of a tick from what happens in it, and the counters over the moves of a tick.
-use Prim.Native.Nat.{ℕ, _+_, _≤_}
+-- Step 3 of a tick from what happens in it, and the counters after it.
+use Prim.Native.Nat.{ℕ}
 use native.Mathlib.Omega.{arith}
-use mathlib.Core.Path.{_≡_, sym, ap, _∙_}
+use mathlib.Core.Path.{_≡_, refl, sym, ap, _∙_}
 use mathlib.Core.Bool.{Bool, true, false, cond}
 use mathlib.Core.List.{List}
 use lib.ListN.{getD}
@@ -9,12 +9,16 @@ use Rattle.rules.specs.declared.MaybeLoad.{MaybeLoad}
 use Rattle.rules.specs.declared.Happening.{Happening}
 use Rattle.rules.specs.declared.Happening.the-variants.{Draw, Wait}
 use Rattle.rules.specs.Basics.{place, stands}
-use Rattle.rules.specs.Display.{State, going, causeOf, happeningOf, happened, stuck, moved}
+use Rattle.rules.specs.Display.{going, causeOf, happeningOf, recordOf, happened, stuck, moved}
 use Rattle.display.specs.declared.state.Display.{Display}
 use Rattle.display.specs.View.{History, loadingOf, view, awaiting, historyMade}
-use Rattle.display.specs.Tick.{DrawnOrWaited, Counted, nextAfter}
+use Rattle.rules.specs.declared.TickRecord.{TickRecord}
+use Rattle.laws.proofs.Cases.{by-test}
+use Rattle.display.specs.declared.tick.Ticked.{Ticked}
+use Rattle.display.specs.Moves.{movedOn, drawnOrWaited}
+use Rattle.display.specs.Tick.{DrawnOrWaited, Counted}
 
--- What happens goes by the awaited symbol alone, whatever else stands beside the display.
+-- What happens goes by the awaited symbol alone, whatever else is beside the display.
 same-happening : (slots : List ℕ) (d : Display) (h : History) (x : ℕ) → getD (h .rest) 0 0 ≡ x
     → happeningOf (view slots h d) ≡ happeningOf (view slots (awaiting x) d)
 same-happening slots d h x e =
@@ -22,68 +26,59 @@ same-happening slots d h x e =
     (λ (y : ℕ). cond (stands y slots) (Draw (place y slots)) (Wait (causeOf (loadingOf (d .remaining) (d .target) (d .incoming)) y)))
     e
 
--- The counters after step 3, read off the state that it leads to.
-moved-counts : (slots : List ℕ) (d r : Display) (hp : Happening) (h : History) → view slots (historyMade d hp h) r ≡ moved hp (view slots h d)
-    → Counted 0 hp d r
-moved-counts slots d r (Draw q) h e =
-    let waits′ : r .waits ≡ d .waits = ap (λ (s : State). s .waits) e in
-    let loads′ : r .loads ≡ d .loads = ap (λ (s : State). s .loads) e in
-    record {
-      tick = ap (λ (s : State). s .tick) e;
-      next = ap (λ (s : State). s .next) e;
-      waits = omega arith;
-      loads = omega arith;
-    }
-moved-counts slots d r (Wait cause) h e =
-    let waits′ : r .waits ≡ d .waits + 1 = ap (λ (s : State). s .waits) e in
-    let loads′ : r .loads ≡ d .loads = ap (λ (s : State). s .loads) e in
-    record {
-      tick = ap (λ (s : State). s .tick) e;
-      next = ap (λ (s : State). s .next) e;
-      waits = omega arith;
-      loads = omega arith;
-    }
+-- Moving on is the draw or the wait of the rules, and what it does to the counters.
+moved-view : (slots : List ℕ) (d : Display) (hp : Happening) (h : History)
+    → view slots (historyMade d hp h) (movedOn hp d) ≡ moved hp (view slots h d)
+moved-view slots d (Draw q) h = refl
+moved-view slots d (Wait cause) h = refl
 
--- The counters over two moves: from d to b, with at most so many loads begun, and from b on.
-pub later-counts : (extra most : ℕ) (hp : Happening) (d b r : Display) → b .tick ≡ d .tick → b .next ≡ d .next → b .waits ≡ d .waits → b .loads ≤ d .loads + extra
-    → Counted most hp b r → Counted (extra + most) hp d r
-later-counts extra most hp d b r t n w l counts =
-    let tick′ : r .tick ≡ b .tick + 1 = counts .tick in
-    let waits′ : r .waits ≤ b .waits + 1 = counts .waits in
-    let loads′ : r .loads ≤ b .loads + most = counts .loads in
-    record {
-      tick = omega arith;
-      next = counts .next ∙ ap (nextAfter hp) n;
-      waits = omega arith;
-      loads = omega arith;
-    }
+moved-counts : (d : Display) (hp : Happening) → Counted 0 hp d (movedOn hp d)
+moved-counts d (Draw q) = record { tick = refl; next = refl; waits = omega arith; loads = omega arith }
+moved-counts d (Wait cause) = record { tick = refl; next = refl; waits = omega arith; loads = omega arith }
 
-module _ (slots : List ℕ) (d : Display) (asked : MaybeLoad) (symbol : ℕ) (done : Bool) (happening : Happening)
-    (known : happening ≡ happeningOf (view slots (awaiting symbol) d)) where
-  pub settled-refused : stuck happening done ≡ true
-      → DrawnOrWaited slots d asked symbol done
-      (record { number = 13; detail = d .next; on_record = record { begun = asked; happening = happening }; display = d })
+module _ (slots : List ℕ) (d : Display) (asked : MaybeLoad) (symbol : ℕ) (done : Bool) where
+  abbrev here : Happening
+  here = happeningOf (view slots (awaiting symbol) d)
+
+  abbrev on : TickRecord
+  on = recordOf asked (view slots (awaiting symbol) d)
+
+  refused-step : stuck here done ≡ true
+      → DrawnOrWaited slots d asked symbol done (record { number = 13; detail = d .next; on_record = on; display = d })
   unfolding happened
-  settled-refused halts =
-      let now-stuck : stuck (happeningOf (view slots (awaiting symbol) d)) done ≡ true = ap (λ (x : Happening). stuck x done) (sym known) ∙ halts in
+  refused-step halts =
       record {
-        recorded = rw known;
+        recorded = refl;
         counts = λ none. absurd (omega arith);
-        run = λ h e. rw (same-happening slots d h symbol e, now-stuck);
+        run = λ h e. rw (same-happening slots d h symbol e, halts);
       }
 
-  pub settled-went : stuck happening done ≡ false
-      → (r : Display)
-      → ((h : History) → view slots (historyMade d happening h) r ≡ moved happening (view slots h d))
-      → DrawnOrWaited slots d asked symbol done
-      (record { number = 0; detail = 0; on_record = record { begun = asked; happening = happening }; display = r })
+  moved-step : stuck here done ≡ false
+      → DrawnOrWaited slots d asked symbol done (record { number = 0; detail = 0; on_record = on; display = movedOn here d })
   unfolding happened
-  settled-went goes r led =
-      let not-stuck : stuck (happeningOf (view slots (awaiting symbol) d)) done ≡ false = ap (λ (x : Happening). stuck x done) (sym known) ∙ goes in
+  moved-step goes =
       record {
-        recorded = rw known;
-        counts = λ none. moved-counts slots d r happening (awaiting symbol) (led (awaiting symbol));
-        run = λ h e.
-            rw (same-happening slots d h symbol e, not-stuck)
-            (ap going (led h ∙ ap (λ (x : Happening). moved x (view slots h d)) known));
+        recorded = refl;
+        counts = λ none. moved-counts d here;
+        run = λ h e. rw (same-happening slots d h symbol e, goes) (ap going (moved-view slots d here h));
       }
+
+  -- Step 3 as its equation has it is step 3 of the rules.
+  pub steps-so : (r : Ticked) → r ≡ drawnOrWaited slots d asked symbol done → DrawnOrWaited slots d asked symbol done r
+  steps-so r is = rw is (by-test (stuck here done) (λ t. rw t (refused-step t)) (λ t. rw t (moved-step t)))
+
+  -- As the code comes to it: from what it found to happen, and whether that is stuck.
+  module _ (happening : Happening) (known : happening ≡ here) where
+    pub steps-refused : stuck happening done ≡ true
+        → record { number = 13; detail = d .next; on_record = record { begun = asked; happening = happening }; display = d }
+        ≡ drawnOrWaited slots d asked symbol done
+    steps-refused halts =
+        let now-stuck : stuck here done ≡ true = ap (λ (x : Happening). stuck x done) (sym known) ∙ halts in
+        rw (now-stuck, known)
+
+    pub steps-moved : stuck happening done ≡ false → (r : Display) → r ≡ movedOn happening d
+        → record { number = 0; detail = 0; on_record = record { begun = asked; happening = happening }; display = r }
+        ≡ drawnOrWaited slots d asked symbol done
+    steps-moved goes r is =
+        let not-stuck : stuck here done ≡ false = ap (λ (x : Happening). stuck x done) (sym known) ∙ goes in
+        rw (not-stuck, is, known)

@@ -1,3 +1,5 @@
+pub mod Search
 pub mod View
+pub mod Moves
 pub mod Tick
 pub mod Still

@@ -1,4 +1,4 @@
--- A stretch of waits behind a tick: the display after it, and what its length keeps to.
+-- A stretch of waits after a tick: the display at its end, and what its length keeps to.
 use Prim.Native.Nat.{ℕ, _+_, _-_, _≤_, _<_}
 use mathlib.Core.Path.{_≡_}
 use mathlib.Core.Bool.{Bool, true, false}
@@ -6,6 +6,7 @@ use Rattle.rules.specs.declared.Happening.{Happening}
 use Rattle.rules.specs.declared.Happening.the-variants.{Draw, Wait}
 use Rattle.display.specs.declared.state.Display.{Display}
 
+-- The display after m waits.
 abbrev pub passed : ℕ → Display → Display
 passed m d =
     record {
@@ -22,11 +23,11 @@ abbrev pub waiting : Happening → Bool
 waiting (Draw q) = false
 waiting (Wait cause) = true
 
--- So many waits behind a tick in which this happened, none behind a draw, and no tick past the limit; `quiet` says of a number of ticks
+-- A number of waits after a tick in which this happened: none after a draw, and no tick past the limit. `quiet` says of a number of ticks
 -- that nothing else comes up in them.
 pub record Rested (quiet : ℕ → Type 0) (limit : ℕ) (happening : Happening) (d r : Display) : Type 0 where
   pub many : ℕ
   pub passes : r ≡ passed many d
   pub in-time : d .tick + many ≤ limit
-  pub behind : 0 < many → waiting happening ≡ true
+  pub after-wait : 0 < many → waiting happening ≡ true
   pub still : quiet many

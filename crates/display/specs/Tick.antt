@@ -3,15 +3,16 @@ use Prim.Native.Nat.{ℕ, _+_, _≤_, _<_}
 use mathlib.Core.Path.{_≡_}
 use mathlib.Core.Bool.{Bool, false, cond}
 use mathlib.Core.List.{List}
-use lib.ListN.{getD, drop}
+use lib.ListN.{length, getD, drop}
 use lib.Dec.{eqb}
 use Rattle.rules.specs.declared.MaybeLoad.{MaybeLoad}
 use Rattle.rules.specs.declared.MaybeLoad.the-variants.{Load, NoLoad}
+use Rattle.rules.specs.declared.Cause.the-variants.{Nothing}
 use Rattle.rules.specs.declared.Happening.{Happening}
 use Rattle.rules.specs.declared.Happening.the-variants.{Draw, Wait}
 use Rattle.rules.specs.declared.TickRecord.{TickRecord}
 use Rattle.rules.specs.Basics.{stands}
-use Rattle.rules.specs.Job.{Job}
+use Rattle.rules.specs.Job.{Job, most-slots}
 use Rattle.rules.specs.Display.{State, Run, Rule, going, refused, loadRefusal, happeningOf, happened, recordOf, tick}
 use Rattle.display.specs.declared.state.Display.{Display}
 use Rattle.display.specs.declared.tick.Ticked.{Ticked}
@@ -23,18 +24,33 @@ pub record Room (d : Display) : Type 0 where
   pub next : d .next < 65535
   pub waits : d .waits < 4294967295
 
+-- A load of this time may begin: it takes a tick at least, and the counter of loads has room for one more.
+pub record CanBegin (time : ℕ) (d : Display) : Type 0 where
+  pub some-time : 1 ≤ time
+  pub loads : d .loads < 4294967295
+
+-- A draw or a wait may come: a slot is numbered in a byte, and the counters have room.
+pub record CanMove (slots : List ℕ) (d : Display) : Type 0 where
+  pub few-slots : length slots ≤ most-slots
+  pub room : Room d
+
 -- The refusal of what is asked for, where anything is.
 abbrev pub askedRefusal : Job → MaybeLoad → State → ℕ
 askedRefusal job NoLoad s = 0
 askedRefusal job (Load q x) s = loadRefusal job q x s
 
--- Where a tick leads, with these slots behind it, given what stands beside the display once the tick is on record.
+-- The tick of a load that is refused with this number. Nothing begins in it, and the display is as it was.
+abbrev pub refusedLoad : ℕ → Display → Ticked
+refusedLoad number d =
+    record { number = number; detail = d .loads; on_record = record { begun = NoLoad; happening = Wait Nothing }; display = d }
+
+-- Where a tick leads, with these slots after it, given what is beside the display once the tick is on record.
 abbrev pub leads : List ℕ → (TickRecord → History) → Ticked → Run
 leads slots beside r =
     cond (eqb (r .number) 0) (going (view slots (beside (r .on_record)) (r .display))) (refused (r .number) (r .detail))
 
--- What the counters say after a tick: one tick more, one draw more where there was a draw, at most one wait more, and at most so many
--- loads more.
+-- What the counters say after a tick: one tick more, one draw more where there was a draw, at most one wait more, and no more loads than
+-- `most` allows.
 abbrev pub nextAfter : Happening → ℕ → ℕ
 nextAfter (Draw q) next = next + 1
 nextAfter (Wait cause) next = next
@@ -45,7 +61,7 @@ pub record Counted (most : ℕ) (happening : Happening) (before later : Display)
   pub waits : later .waits ≤ before .waits + 1
   pub loads : later .loads ≤ before .loads + most
 
--- Step 3 from d, with the awaited symbol, whatever stands beside the display.
+-- Step 3 from d, with the awaited symbol, whatever is beside the display.
 pub record DrawnOrWaited (slots : List ℕ) (d : Display) (asked : MaybeLoad) (symbol : ℕ) (done : Bool) (r : Ticked) : Type 0 where
   pub recorded : r .on_record ≡ recordOf asked (view slots (awaiting symbol) d)
   pub counts : r .number ≡ 0 → Counted 0 (r .on_record .happening) d (r .display)

@@ -1,6 +1,7 @@
--- The code's state as the rules' state. The code has what the slots hold in lent memory, and does not hold what stands beside it: the
--- draws that remain, the draws made, the loads begun.
+-- The code's state as the rules' state. The code has what the slots hold in lent memory. It does not hold what is beside the display:
+-- the draws that remain, the draws made and the loads begun.
 use Prim.Native.Nat.{ℕ, zero, suc}
+use mathlib.Core.Path.{_≡_}
 use mathlib.Core.List.{List, [], _∷_, _++_}
 use lib.ListN.{drop}
 use Rattle.rules.specs.declared.Loading.{Loading}
@@ -11,9 +12,10 @@ use Rattle.rules.specs.declared.Happening.{Happening}
 use Rattle.rules.specs.declared.Happening.the-variants.{Draw, Wait}
 use Rattle.rules.specs.declared.TickRecord.{TickRecord}
 use Rattle.rules.specs.Job.{Job}
-use Rattle.rules.specs.Display.{State, Drawn, drawn, Loaded, loaded, begin}
+use Rattle.rules.specs.Display.{State, Drawn, drawn, Loaded, loaded, land, begin}
 use Rattle.display.specs.declared.state.Display.{Display}
 
+-- What is beside the display.
 pub record History : Type 0 where
   pub rest : List ℕ
   pub made : List Drawn
@@ -38,7 +40,7 @@ view slots h d =
       begun = h .begun;
     }
 
--- What stands beside the display once a load has begun, and once a draw was made.
+-- What is beside the display once a load has begun, and once a draw was made.
 abbrev pub begunNow : Display → ℕ → ℕ → History → History
 begunNow d q x h =
     record { rest = h .rest; made = h .made; begun = h .begun ++ (loaded (d .tick) (d .next) q x ∷ []) }
@@ -62,6 +64,15 @@ onward d tick h = historyMade d (tick .happening) (historyBegun d (tick .begun) 
 abbrev pub begunBy : Job → MaybeLoad → State → State
 begunBy job NoLoad s = s
 begunBy job (Load q x) s = begin job q x s
+
+-- The two moves before the draw or the wait, from d with these slots to the display r with other slots. Both are the same whatever is
+-- beside the display; a load begins so in every job of this load time.
+abbrev pub Lands : List ℕ → Display → List ℕ → Display → Type 0
+Lands slots d slots′ r = (h : History) → view slots′ h r ≡ land (view slots h d)
+
+abbrev pub Begins : ℕ → MaybeLoad → List ℕ → Display → List ℕ → Display → Type 0
+Begins time asked slots d slots′ r =
+    (h : History) (job : Job) → job .load-time ≡ time → view slots′ (historyBegun d asked h) r ≡ begunBy job asked (view slots h d)
 
 -- All that a single search looks at: the awaited symbol.
 abbrev pub awaiting : ℕ → History

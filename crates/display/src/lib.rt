@@ -8,7 +8,7 @@ mod tick;
 
 pub use answer::accepted;
 pub use answer::refusal;
-pub use search::find;
+pub use search::slot_of;
 pub use state::Display;
 pub use state::begin;
 pub use state::land;

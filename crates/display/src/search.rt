@@ -1,12 +1,9 @@
 // The search for the slot that holds a symbol.
-ghost use mathlib.Core.Path.{_≡_};
-ghost use Prim.Native.Nat.{_≤_};
-ghost use lib.ListN.{length};
-ghost use Rattle.rules.specs.Basics.{place};
+ghost use Rattle.display.specs.Search.{Found};
 
 // The first slot that holds the symbol, or the number of slots where none does.
-pub fn find(slots: &[u16], symbol: u16) -> usize
-    ensures { λ r. ⌜ (r ≡ place symbol (now (slots .entry))) × (r ≤ length (now (slots .entry))) ⌝ }
+pub fn slot_of(slots: &[u16], symbol: u16) -> usize
+    ensures { λ r. ⌜ Found symbol (now (slots .entry)) r ⌝ }
 {
     let mut slot = 0;
     while slot < slots.len() {

@@ -1,13 +1,12 @@
 // The display's state, and the moves that make up a tick: a load ends or comes nearer to its end, a load begins, a draw, a wait.
 // What the slots hold is lent beside the state, so that no tick copies it.
+use rules::FREE;
 use rules::MaybeLoad;
 ghost use mathlib.Core.Path.{_≡_};
-ghost use mathlib.Core.List.{List};
-ghost use Prim.Native.Nat.{ℕ, _-_, _≤_, _<_};
+ghost use Prim.Native.Nat.{_≤_};
 ghost use lib.ListN.{set};
-ghost use Rattle.rules.specs.Job.{Job};
-ghost use Rattle.rules.specs.Display.{land, draw, wait};
-ghost use Rattle.display.specs.View.{History, view, historyBegun, begunBy, drawnNow};
+ghost use Rattle.display.specs.Moves.{nearer, landedIn, begunWith, begunIn, afterDraw, afterWait};
+ghost use Rattle.display.specs.Tick.{Room, CanBegin};
 
 // The ticks passed, the waits and loads so far and the next draw number; then the load under way: in how many ticks it ends, or 0 where
 // none is under way, and its slot and its symbol.
@@ -20,9 +19,6 @@ pub struct Display {
     pub target: u16,
     pub incoming: u16,
 }
-
-// What a slot holds that holds no symbol.
-pub const FREE: u16 = 65535;
 
 // Tick 0, with no load under way.
 pub fn start() -> Display
@@ -39,7 +35,7 @@ pub fn start() -> Display
     }
 }
 
-// A slot past the last is none, and a store there is no store.
+// Puts the content into the slot. Past the last slot nothing changes.
 fn put(slots: &mut [u16], slot: u16, content: u16)
     ensures { λ r. ⌜ now (slots .exit) ≡ set (now (slots .entry)) slot content ⌝ }
 {
@@ -49,9 +45,10 @@ fn put(slots: &mut [u16], slot: u16, content: u16)
     }
 }
 
+// The load under way is a tick nearer to its end.
 fn nearer(d: Display) -> Display
     requires { ⌜ 1 ≤ d .remaining ⌝ }
-    ensures { λ r. ⌜ r ≡ record { tick = d .tick; waits = d .waits; loads = d .loads; next = d .next; remaining = d .remaining - 1; target = d .target; incoming = d .incoming } ⌝ }
+    ensures { λ r. ⌜ r ≡ nearer d ⌝ }
 {
     Display {
         tick: d.tick,
@@ -66,7 +63,8 @@ fn nearer(d: Display) -> Display
 
 // Step 1 of a tick.
 pub fn land(slots: &mut [u16], d: Display) -> Display
-    ensures { λ r. ⌜ ((h : History) → view (now (slots .exit)) h r ≡ land (view (now (slots .entry)) h d)) ⌝ }
+    ensures display { λ r. ⌜ r ≡ nearer d ⌝ }
+    ensures slots { λ r. ⌜ now (slots .exit) ≡ landedIn d (now (slots .entry)) ⌝ }
 {
     if d.remaining == 0 {
         return d;
@@ -80,8 +78,9 @@ pub fn land(slots: &mut [u16], d: Display) -> Display
 
 // Step 2 of a tick, where the load that is asked for, if any is, was not refused.
 pub fn begin(slots: &mut [u16], d: Display, time: u16, asked: MaybeLoad) -> Display
-    requires { ⌜ (1 ≤ time) × (d .loads < 4294967295) ⌝ }
-    ensures { λ r. ⌜ ((h : History) (job : Job) → job .time ≡ time → view (now (slots .exit)) (historyBegun d asked h) r ≡ begunBy job asked (view (now (slots .entry)) h d)) ⌝ }
+    requires { ⌜ CanBegin time d ⌝ }
+    ensures display { λ r. ⌜ r ≡ begunWith time asked d ⌝ }
+    ensures slots { λ r. ⌜ now (slots .exit) ≡ begunIn asked (now (slots .entry)) ⌝ }
 {
     let MaybeLoad::Load { slot, symbol } = asked else {
         return d;
@@ -98,10 +97,10 @@ pub fn begin(slots: &mut [u16], d: Display, time: u16, asked: MaybeLoad) -> Disp
     }
 }
 
-// Step 3 of a tick that draws, from whatever slot.
+// Step 3 of a tick that draws.
 pub fn draw(d: Display) -> Display
-    requires { ⌜ (d .tick < 4294967295) × (d .next < 65535) ⌝ }
-    ensures { λ r. ⌜ ((slots : List ℕ) (h : History) (q : ℕ) → view slots (drawnNow d q h) r ≡ draw q (view slots h d)) ⌝ }
+    requires { ⌜ Room d ⌝ }
+    ensures { λ r. ⌜ r ≡ afterDraw d ⌝ }
 {
     Display {
         tick: d.tick + 1,
@@ -116,8 +115,8 @@ pub fn draw(d: Display) -> Display
 
 // Step 3 of a tick that waits.
 pub fn wait(d: Display) -> Display
-    requires { ⌜ (d .tick < 4294967295) × (d .waits < 4294967295) ⌝ }
-    ensures { λ r. ⌜ ((slots : List ℕ) (h : History) → view slots h r ≡ wait (view slots h d)) ⌝ }
+    requires { ⌜ Room d ⌝ }
+    ensures { λ r. ⌜ r ≡ afterWait d ⌝ }
 {
     Display {
         tick: d.tick + 1,

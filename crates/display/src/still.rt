@@ -1,4 +1,4 @@
-// A stretch of ticks that are waits and no more: how far it can reach before a load under way ends, and the display behind it.
+// A stretch of ticks that are waits and no more: how far it can reach before a load under way ends, and the display after it.
 use crate::state::Display;
 ghost use mathlib.Core.Path.{_≡_};
 ghost use Prim.Native.Nat.{_+_, _-_, _≤_, min};
@@ -16,11 +16,13 @@ pub fn before_end(d: Display) -> u32
     ensures { λ r. ⌜ r ≡ d .remaining - 1 ⌝ }
 {
     if d.remaining == 0 {
-        return 0;
+        0
+    } else {
+        (d.remaining - 1) as u32
     }
-    (d.remaining - 1) as u32
 }
 
+// What is left of a load after some ticks: none where it has ended.
 fn ticks_left(remaining: u16, ticks: u32) -> u16
     ensures { λ r. ⌜ r ≡ remaining - ticks ⌝ }
 {
@@ -30,7 +32,7 @@ fn ticks_left(remaining: u16, ticks: u32) -> u16
     (remaining as u32 - ticks) as u16
 }
 
-// The display behind so many waits.
+// The display after this number of waits.
 pub fn pass_waits(d: Display, ticks: u32) -> Display
     requires { ⌜ (d .tick + ticks ≤ 4294967295) × (d .waits + ticks ≤ 4294967295) ⌝ }
     ensures { λ r. ⌜ r ≡ passed ticks d ⌝ }

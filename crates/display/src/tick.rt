@@ -1,24 +1,24 @@
 // What a tick brings once a load that ends in it is in its slot: the refusal of a load, and the draw or the wait.
-use crate::search::find;
+use crate::search::slot_of;
 use crate::state::Display;
-use crate::state::FREE;
 use crate::state::draw;
 use crate::state::wait;
 use rules::Cause;
+use rules::FREE;
 use rules::Happening;
 use rules::MaybeLoad;
 use rules::TickRecord;
 ghost use mathlib.Core.Path.{_≡_};
 ghost use mathlib.Core.Bool.{not, _||_};
-ghost use mathlib.Core.List.{List};
-ghost use Prim.Native.Nat.{ℕ, _≤_};
+ghost use Prim.Native.Nat.{_≤_};
 ghost use lib.ListN.{length};
 ghost use lib.Dec.{eqb, ltb};
 ghost use Rattle.rules.specs.Basics.{stands};
-ghost use Rattle.rules.specs.Job.{Job, free};
-ghost use Rattle.rules.specs.Display.{idle, causeOf, happeningOf, stuck, moved};
-ghost use Rattle.display.specs.View.{History, view, loadingOf, awaiting, historyMade};
-ghost use Rattle.display.specs.Tick.{Room, DrawnOrWaited, askedRefusal};
+ghost use Rattle.rules.specs.Job.{Job, free, most-slots};
+ghost use Rattle.rules.specs.Display.{idle, causeOf, happeningOf, stuck};
+ghost use Rattle.display.specs.View.{History, view, loadingOf, awaiting};
+ghost use Rattle.display.specs.Moves.{movedOn, drawnOrWaited};
+ghost use Rattle.display.specs.Tick.{Room, CanMove, askedRefusal, refusedLoad};
 
 // What came of a tick: the number and detail of its refusal, or number 0, the tick's record, and the display after it.
 pub struct Ticked {
@@ -35,7 +35,7 @@ fn under_way(d: Display) -> bool
     d.remaining != 0
 }
 
-// 11. The slot is none of these.
+// 11. There is no such slot.
 fn beyond(slots: &[u16], slot: u8) -> bool
     ensures { λ r. ⌜ r ≡ not (ltb slot (length (now (slots .entry)))) ⌝ }
 {
@@ -49,7 +49,7 @@ fn held_or_none(slots: &[u16], symbol: u16) -> bool
     if symbol == FREE {
         return true;
     }
-    find(slots, symbol) < slots.len()
+    slot_of(slots, symbol) < slots.len()
 }
 
 // The first refusal of 10 to 12 that a load which is asked for meets; 0 where it meets none or none is asked for.
@@ -73,7 +73,7 @@ pub fn load_refusal(slots: &[u16], d: Display, asked: MaybeLoad) -> u32
 
 // The tick of a load that is refused with this number. Nothing begins in it, and the display is as it was.
 pub fn refused_load(d: Display, number: u32) -> Ticked
-    ensures { λ r. ⌜ r ≡ record { number = number; detail = d .loads; on_record = record { begun = MaybeLoad.NoLoad; happening = Happening.Wait Cause.Nothing }; display = d } ⌝ }
+    ensures { λ r. ⌜ r ≡ refusedLoad number d ⌝ }
 {
     Ticked {
         number,
@@ -100,10 +100,10 @@ fn cause_of(d: Display, symbol: u16) -> Cause
 
 // A draw of the awaited symbol from the first slot that holds it, or a wait and its cause.
 fn happening_of(slots: &[u16], d: Display, symbol: u16) -> Happening
-    requires { ⌜ length (now slots) ≤ 64 ⌝ }
+    requires { ⌜ length (now slots) ≤ most-slots ⌝ }
     ensures { λ r. ⌜ r ≡ happeningOf (view (now (slots .entry)) (awaiting symbol) d) ⌝ }
 {
-    let slot = find(slots, symbol);
+    let slot = slot_of(slots, symbol);
     if slot < slots.len() {
         return Happening::Draw { slot: slot as u8 };
     }
@@ -125,7 +125,7 @@ fn is_stuck(happening: Happening, done: bool) -> bool
 
 fn move_on(d: Display, happening: Happening) -> Display
     requires { ⌜ Room d ⌝ }
-    ensures { λ r. ⌜ ((slots : List ℕ) (h : History) → view slots (historyMade d happening h) r ≡ moved happening (view slots h d)) ⌝ }
+    ensures { λ r. ⌜ r ≡ movedOn happening d ⌝ }
 {
     match happening {
         Happening::Draw { slot: _ } => draw(d),
@@ -135,8 +135,8 @@ fn move_on(d: Display, happening: Happening) -> Display
 
 // Step 3 of a tick: the draw or the wait, refused where it would never end. `done` says that no load will be asked for any more.
 pub fn draw_or_wait(slots: &[u16], d: Display, asked: MaybeLoad, symbol: u16, done: bool) -> Ticked
-    requires { ⌜ (length (now slots) ≤ 64) × Room d ⌝ }
-    ensures { λ r. ⌜ DrawnOrWaited (now (slots .entry)) d asked symbol done r ⌝ }
+    requires { ⌜ CanMove (now slots) d ⌝ }
+    ensures { λ r. ⌜ r ≡ drawnOrWaited (now (slots .entry)) d asked symbol done ⌝ }
 {
     let happening = happening_of(slots, d, symbol);
     let on_record = TickRecord {

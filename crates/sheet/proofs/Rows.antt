@@ -7,7 +7,7 @@ use lib.ListN.{length, take, drop, set, replicate, length-replicate, length-appe
 use lib.Seq.{take-at, set-at, append-snoc}
 use Rattle.rules.specs.Basics.{number16}
 use Rattle.rules.specs.declared.Shape.{Shape}
-use Rattle.rules.specs.Job.{symbols, starting-at, free, shapeOf, startingOf}
+use Rattle.rules.specs.Job.{symbols, starting-at, free, shapeOf, startingSymbols}
 use Rattle.laws.proofs.Symbols.{length-symbols, number16-drop}
 use Rattle.sheet.specs.Row.{row64}
 
@@ -53,7 +53,7 @@ take-row k job h =
 
 -- The slots that a job of this shape uses hold its starting symbols.
 pub row-starts : (job : List ℕ) (shape : Shape) (row : List ℕ) → shape ≡ shapeOf job → shape .slots ≤ 64 → row ≡ row64 (shape .slots) job
-    → take (shape .slots) row ≡ startingOf job
+    → take (shape .slots) row ≡ startingSymbols job
 row-starts job shape row shaped few filled =
     ap (λ (l : List ℕ). take (shape .slots) l) filled
     ∙ take-row (shape .slots) job few

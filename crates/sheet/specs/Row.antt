@@ -1,4 +1,4 @@
--- The starting symbols of a job as the 64 slots that a display has: those of its k slots, and free ones behind them.
+-- The starting symbols of a job as the 64 slots that a display has: those of its k slots, and free ones after them.
 use Prim.Native.Nat.{ℕ, _-_, min}
 use mathlib.Core.List.{List, _++_}
 use lib.ListN.{drop, replicate}

@@ -2,24 +2,27 @@
 use crate::number::byte_at;
 use crate::number::number16_at;
 use crate::number::number32_at;
-use crate::row::FREE;
 use crate::row::doubled_in;
 use crate::row::stands_in;
+use rules::FREE;
 use rules::JobReading;
+use rules::MOST_DRAWS;
+use rules::MOST_LOAD_TIME;
+use rules::MOST_SLOTS;
 use rules::Shape;
 ghost use mathlib.Core.Path.{_≡_};
 ghost use Prim.Native.Nat.{_+_, _*_};
 ghost use Rattle.rules.specs.Basics.{number16};
-ghost use Rattle.rules.specs.Job.{shapeOf, startingOf, drawsOf, starting-at, draws-at};
+ghost use Rattle.rules.specs.Job.{shapeOf, startingSymbols, drawnSymbols, starting-at, draws-at};
 ghost use Rattle.sheet.specs.Row.{row64};
-ghost use Rattle.rules.specs.Refusals.{readJob, badJobLength, badJobVersion, badLimits, badJobSize, badSymbols};
+ghost use Rattle.rules.specs.Refusals.{readJob, jobNumber, badJobLength, badJobVersion, badLimits, badJobSize, badSymbols};
 
 fn shape_of(job: &[u8]) -> Shape
     ensures { λ r. ⌜ r ≡ shapeOf (now (job .entry)) ⌝ }
 {
     Shape {
         slots: byte_at(job, 5),
-        time: number16_at(job, 6),
+        load_time: number16_at(job, 6),
         draws: number16_at(job, 8),
     }
 }
@@ -49,16 +52,16 @@ fn bad_limits(job: &[u8]) -> bool
     if shape.slots < 1 {
         return true;
     }
-    if 64 < shape.slots {
+    if MOST_SLOTS < shape.slots {
         return true;
     }
-    if shape.time < 1 {
+    if shape.load_time < 1 {
         return true;
     }
-    if 1000 < shape.time {
+    if MOST_LOAD_TIME < shape.load_time {
         return true;
     }
-    4096 < shape.draws
+    MOST_DRAWS < shape.draws
 }
 
 // 4. A length other than 6 + 2k + 2n.
@@ -71,7 +74,7 @@ fn bad_size(job: &[u8]) -> bool
 
 // 5. A symbol in two starting slots, or the mark of a free slot among the draws.
 fn bad_symbols(job: &[u8]) -> bool
-    ensures { λ r. ⌜ r ≡ badSymbols (startingOf (now (job .entry))) (drawsOf (now (job .entry))) ⌝ }
+    ensures { λ r. ⌜ r ≡ badSymbols (startingSymbols (now (job .entry))) (drawnSymbols (now (job .entry))) ⌝ }
 {
     let shape = shape_of(job);
     if doubled_in(job, 10, shape.slots as u16) {
@@ -109,20 +112,20 @@ pub fn starting_symbol(job: &[u8], slot: u8) -> u16
     number16_at(job, 10 + 2 * slot as usize)
 }
 
-// The symbol of a draw, by its place, in a job of so many slots.
+// The symbol of a draw, by its place, in a job of this many slots.
 pub fn draw_symbol(job: &[u8], slots: u8, draw: u16) -> u16
     ensures { λ r. ⌜ r ≡ number16 (now (job .entry)) (draws-at slots + 2 * draw) ⌝ }
 {
     number16_at(job, 10 + 2 * slots as usize + 2 * draw as usize)
 }
 
-// What each of the 64 slots of a display holds at the start of a job of so many slots.
-pub fn starting_slots(job: &[u8], slots: u8) -> [u16; 64]
+// What each of the 64 slots of a display holds at the start of a job of this many slots.
+pub fn starting_slots(job: &[u8], slots: u8) -> [u16; MOST_SLOTS as usize]
     ensures { λ r. ⌜ r ≡ row64 slots (now (job .entry)) ⌝ }
 {
-    let mut row = [FREE; 64];
+    let mut row = [FREE; MOST_SLOTS as usize];
     let mut slot: u8 = 0;
-    while slot < 64 {
+    while slot < MOST_SLOTS {
         if slots <= slot {
             return row;
         }
@@ -130,4 +133,14 @@ pub fn starting_slots(job: &[u8], slots: u8) -> [u16; 64]
         slot += 1;
     }
     row
+}
+
+// The number of the refusal that reading a job found; 0 where the job was taken.
+pub fn job_number(reading: JobReading) -> u32
+    ensures { λ r. ⌜ r ≡ jobNumber reading ⌝ }
+{
+    match reading {
+        JobReading::Taken(_) => 0,
+        JobReading::Refused(number) => number,
+    }
 }

@@ -8,9 +8,11 @@ mod ticks;
 mod walk;
 
 pub use job::draw_symbol;
+pub use job::job_number;
 pub use job::read_job;
 pub use job::starting_slots;
 pub use job::starting_symbol;
+pub use list::list_size;
 pub use list::put_event;
 pub use list::put_head;
 pub use list::read_event;

@@ -5,12 +5,20 @@ use crate::number::number32_at;
 use crate::number::put32;
 use rules::EventReading;
 use rules::ListReading;
+use rules::MOST_EVENTS;
 ghost use mathlib.Core.Path.{_≡_};
 ghost use mathlib.Core.List.{_++_};
-ghost use Prim.Native.Nat.{_≤_};
+ghost use Prim.Native.Nat.{_+_, _*_, _≤_};
 ghost use lib.ListN.{length, drop};
 ghost use Rattle.rules.specs.LoadList.{event, event-at, head-size, event-size, readEvent, eventBytes, put, putHead, putEvent, putNumber};
 ghost use Rattle.rules.specs.Refusals.{readList};
+
+// The number of bytes of a list of this many events: a head, and an event to each.
+pub fn list_size(events: u32) -> usize
+    ensures { λ r. ⌜ r ≡ head-size + event-size * events ⌝ }
+{
+    7 + 7 * events as usize
+}
 
 // The number of events, or that these bytes are no list. (Refusal 8)
 pub fn read_list(list: &[u8]) -> ListReading
@@ -27,7 +35,7 @@ pub fn read_list(list: &[u8]) -> ListReading
         return ListReading::Unreadable;
     }
     let count = number16_at(list, 5);
-    if 4096 < count {
+    if MOST_EVENTS < count {
         return ListReading::Unreadable;
     }
     if length != 3 + 7 * count as u32 {
@@ -74,7 +82,7 @@ fn put_at(room: &mut [u8], at: u32, long: u32, byte: u8, short: u16) -> u32
     0
 }
 
-// Writes the head of a list of so many events at the front of the room, and leaves every other byte alone.
+// Writes the head of a list of this many events at the front of the room, and leaves every other byte alone.
 pub fn put_head(room: &mut [u8], count: u16) -> u32
     ensures number { λ r. ⌜ r ≡ putNumber 0 head-size (now (room .entry)) ⌝ }
     ensures written { λ r. ⌜ now (room .exit) ≡ putHead count (now (room .entry)) ⌝ }

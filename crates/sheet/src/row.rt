@@ -1,14 +1,12 @@
-// Rows of symbols, two bytes each, from a place of a job on: whether a symbol stands in one, and whether one stands in it twice.
+// Rows of symbols, two bytes each, from a place of a job on: whether a symbol is in one, and whether one is in it twice.
 use crate::number::number16_at;
+use rules::FREE;
 ghost use mathlib.Core.Path.{_≡_};
 ghost use Prim.Native.Nat.{_+_, _*_};
 ghost use lib.ListN.{drop};
 ghost use Rattle.rules.specs.Basics.{stands};
 ghost use Rattle.rules.specs.Job.{symbols};
 ghost use Rattle.rules.specs.Refusals.{doubled};
-
-// The mark of a free slot, which may stand in a row several times.
-pub const FREE: u16 = 65535;
 
 pub fn stands_in(s: &[u8], from: u32, count: u16, symbol: u16) -> bool
     ensures { λ r. ⌜ r ≡ stands symbol (symbols count (drop from (now (s .entry)))) ⌝ }

@@ -1,6 +1,7 @@
 // The rule of ticks in a load list: none is over the limit, and each is above the one before.
 use crate::walk::event_of;
 use rules::EventReading;
+use rules::LAST_TICK;
 ghost use mathlib.Core.Path.{_≡_};
 ghost use lib.ListN.{drop};
 ghost use Rattle.rules.specs.LoadList.{eventsIn, head-size};
@@ -24,7 +25,7 @@ pub fn first_bad_tick(list: &[u8], count: u16) -> u32
         else {
             return index;
         };
-        if 8388607 < tick {
+        if LAST_TICK < tick {
             return index;
         }
         if tick < least {

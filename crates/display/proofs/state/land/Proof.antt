@@ -1,18 +1,34 @@
 -- `land` meets its contract: no load is under way, or one ends, or it comes nearer to its end.
-use Prim.Native.Nat.{ℕ}
-use mathlib.Core.List.{List}
-use mathlib.Core.Path.{_≡_, ap, _∙_}
-use lib.ListN.{set}
+use Prim.Native.Nat.{ℕ, _-_}
+use native.Mathlib.Omega.{arith}
+use mathlib.Core.Path.{_≡_, sym, ap}
 use borrow.Author.Needs.{needs}
-use Rattle.display.specs.View.{view}
-use Rattle.display.proofs.Views.{idle-lands, ended-lands, nearer-lands}
+use borrow.Author.Tests.{eq-eqb, ne-eqb}
+use Rattle.display.specs.declared.state.Display.{Display}
 use Rattle.display.proofs.state.land.Statement.{statement}
 use Rattle.display.proofs.state.land.Tie as tie
 
+-- The display with this many ticks until its load ends.
+ending : Display → ℕ → Display
+ending d left =
+    record {
+      tick = d .tick;
+      waits = d .waits;
+      loads = d .loads;
+      next = d .next;
+      remaining = left;
+      target = d .target;
+      incoming = d .incoming;
+    }
+
 returns : tie.Need-returns
+unfolding ending
 returns c =
     let s : tie.Start = search in
-    λ h. idle-lands (s .args .slots .now) h (s .args .d) search
+    let d = s .args .d in
+    let idle : d .remaining ≡ 0 = search in
+    let same : d .remaining ≡ d .remaining - 1 = omega arith in
+    (ap (ending d) same, simp (ne-eqb (d .remaining) 1 (λ one. omega arith)))
 
 put-requires : tie.Need-put-requires
 put-requires c κs = search needs
@@ -23,23 +39,13 @@ nearer-requires c κs = search needs
 same-length : tie.Need-same-length
 same-length c = search needs
 
--- The load under way has ended, and its symbol is in its slot.
-module _ (p : tie.After-put) where
-  abbrev at-start : tie.Start
-  at-start = search
-
-  ended : at-start .args .d .remaining ≡ 1
-  ended = search
-
 returns-2 : tie.Need-returns-2
 returns-2 c =
     let after : tie.After-nearer = search in
     let p : tie.After-put = search in
-    let a = at-start p .args in
-    λ h.
-    ap (λ (slots : List ℕ). view slots h (after .nearer .result)) (p .put .ensures)
-    ∙ ap (view (set (a .slots .now) (a .d .target) (a .d .incoming)) h) (after .nearer .ensures)
-    ∙ ended-lands (a .slots .now) h (a .d) (ended p)
+    let s : tie.Start = search in
+    let ended : s .args .d .remaining ≡ 1 = search in
+    (after .nearer .ensures, simp (eq-eqb (s .args .d .remaining) 1 ended) (p .put .ensures))
 
 nearer-requires-2 : tie.Need-nearer-requires-2
 nearer-requires-2 c κs = search needs
@@ -48,8 +54,8 @@ returns-3 : tie.Need-returns-3
 returns-3 c =
     let after : tie.After-nearer2 = search in
     let s : tie.Start = search in
-    let a = s .args in
-    λ h. ap (view (a .slots .now) h) (after .nearer2 .ensures) ∙ nearer-lands (a .slots .now) h (a .d) search
+    let more : s .args .d .remaining ≡ 1 → ⊥ = search in
+    (after .nearer2 .ensures, simp (ne-eqb (s .args .d .remaining) 1 more))
 
 pub land-spec : {M : Type 1} → statement M
 land-spec =

@@ -1,4 +1,4 @@
--- `put` meets its contract: a store past the last slot is no store.
+-- `put` meets its contract: past the last slot nothing changes.
 use native.Mathlib.Omega.{arith}
 use mathlib.Core.Path.{sym}
 use lib.Seq.{set-out}

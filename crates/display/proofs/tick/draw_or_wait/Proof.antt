@@ -2,7 +2,7 @@
 use mathlib.Core.Bool.{true, false}
 use mathlib.Core.Path.{_≡_, sym, _∙_}
 use borrow.Author.Needs.{needs}
-use Rattle.display.proofs.Ticks.{settled-refused, settled-went}
+use Rattle.display.proofs.Ticks.{steps-refused, steps-moved}
 use Rattle.display.proofs.tick.draw_or_wait.Statement.{statement}
 use Rattle.display.proofs.tick.draw_or_wait.Tie as tie
 
@@ -22,7 +22,7 @@ returns c =
     let k : tie.After-is-stuck = search in
     let a = s .args in
     let stuck : k .is-stuck .result ≡ true = search in
-    settled-refused (a .slots .now) (a .d) (a .asked) (a .symbol) (a .done) (h .happening-of .result) (h .happening-of .ensures)
+    steps-refused (a .slots .now) (a .d) (a .asked) (a .symbol) (a .done) (h .happening-of .result) (h .happening-of .ensures)
     (sym (k .is-stuck .ensures) ∙ stuck)
 
 move-on-requires : tie.Need-move-on-requires
@@ -36,9 +36,8 @@ returns-2 c =
     let k : tie.After-is-stuck = search in
     let a = s .args in
     let stuck : k .is-stuck .result ≡ false = search in
-    settled-went (a .slots .now) (a .d) (a .asked) (a .symbol) (a .done) (h .happening-of .result) (h .happening-of .ensures)
-    (sym (k .is-stuck .ensures) ∙ stuck)
-    (after .move-on .result) (after .move-on .ensures (a .slots .now))
+    steps-moved (a .slots .now) (a .d) (a .asked) (a .symbol) (a .done) (h .happening-of .result) (h .happening-of .ensures)
+    (sym (k .is-stuck .ensures) ∙ stuck) (after .move-on .result) (after .move-on .ensures)
 
 pub draw-or-wait-spec : {M : Type 1} → statement M
 draw-or-wait-spec =

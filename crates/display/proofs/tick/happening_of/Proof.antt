@@ -8,8 +8,8 @@ use Rattle.laws.proofs.Places.{found-stands, missed-stands}
 use Rattle.display.proofs.tick.happening_of.Statement.{statement}
 use Rattle.display.proofs.tick.happening_of.Tie as tie
 
-find-requires : tie.Need-find-requires
-find-requires c κs = search needs
+slot-of-requires : tie.Need-slot-of-requires
+slot-of-requires c κs = search needs
 
 cast-t7 : tie.Need-cast-t7
 cast-t7 c = search needs
@@ -17,9 +17,9 @@ cast-t7 c = search needs
 returns : tie.Need-returns
 returns c =
     let s : tie.Start = search in
-    let f : tie.After-find = search in
-    let found : f .find .result < length (s .args .slots .now) = search in
-    simp (found-stands _ _ _ _ (f .find .ensures .0) refl found) (ap Draw (f .find .ensures .0))
+    let f : tie.After-slot-of = search in
+    let found : f .slot-of .result < length (s .args .slots .now) = search in
+    simp (found-stands _ _ _ _ (f .slot-of .ensures .first) refl found) (ap Draw (f .slot-of .ensures .first))
 
 cause-of-requires : tie.Need-cause-of-requires
 cause-of-requires c κs = search needs
@@ -28,9 +28,9 @@ returns-2 : tie.Need-returns-2
 returns-2 c =
     let after : tie.After-cause-of = search in
     let s : tie.Start = search in
-    let f : tie.After-find = search in
-    let missed : length (s .args .slots .now) ≤ f .find .result = search in
-    simp (missed-stands _ _ _ _ (f .find .ensures .0) refl missed) (ap Wait (after .cause-of .ensures))
+    let f : tie.After-slot-of = search in
+    let missed : length (s .args .slots .now) ≤ f .slot-of .result = search in
+    simp (missed-stands _ _ _ _ (f .slot-of .ensures .first) refl missed) (ap Wait (after .cause-of .ensures))
 
 pub happening-of-spec : {M : Type 1} → statement M
-happening-of-spec = tie.close (tie.spec find-requires cast-t7 returns cause-of-requires returns-2)
+happening-of-spec = tie.close (tie.spec slot-of-requires cast-t7 returns cause-of-requires returns-2)

@@ -19,13 +19,13 @@ returns : tie.Need-returns
 returns c =
     let after : tie.After-draw = search in
     let told : tie.After-enum-told = search in
-    λ slots h. simp (told .enum-told .given .1) (after .draw .ensures slots h (told .enum-told .given .0 .0))
+    simp (told .enum-told .given .1) (after .draw .ensures)
 
 returns-2 : tie.Need-returns-2
 returns-2 c =
     let after : tie.After-wait = search in
     let told : tie.After-enum-told2 = search in
-    λ slots h. simp (told .enum-told2 .given .1) (after .wait .ensures slots h)
+    simp (told .enum-told2 .given .1) (after .wait .ensures)
 
 pub move-on-spec : {M : Type 1} → statement M
 move-on-spec =

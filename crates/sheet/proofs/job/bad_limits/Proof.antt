@@ -32,7 +32,7 @@ returns-3 : tie.Need-returns-3
 returns-3 c =
     let p : tie.After-shape-of = search in
     let held : true ≡ badLimits (read p) =
-    simp (le-ltb (read p .slots) 1 (omega arith), le-ltb 64 (read p .slots) (omega arith), lt-ltb (read p .time) 1 (omega arith)) in
+    simp (le-ltb (read p .slots) 1 (omega arith), le-ltb 64 (read p .slots) (omega arith), lt-ltb (read p .«load_time») 1 (omega arith)) in
     held ∙ ap badLimits (p .shape-of .ensures)
 
 returns-4 : tie.Need-returns-4
@@ -42,8 +42,8 @@ returns-4 c =
     simp (
       le-ltb (read p .slots) 1 (omega arith),
       le-ltb 64 (read p .slots) (omega arith),
-      le-ltb (read p .time) 1 (omega arith),
-      lt-ltb 1000 (read p .time) (omega arith),
+      le-ltb (read p .«load_time») 1 (omega arith),
+      lt-ltb 1000 (read p .«load_time») (omega arith),
     ) in
     held ∙ ap badLimits (p .shape-of .ensures)
 
@@ -54,8 +54,8 @@ returns-5 c =
     simp (
       le-ltb (read p .slots) 1 (omega arith),
       le-ltb 64 (read p .slots) (omega arith),
-      le-ltb (read p .time) 1 (omega arith),
-      le-ltb 1000 (read p .time) (omega arith),
+      le-ltb (read p .«load_time») 1 (omega arith),
+      le-ltb 1000 (read p .«load_time») (omega arith),
     ) in
     left ∙ ap badLimits (p .shape-of .ensures)
 

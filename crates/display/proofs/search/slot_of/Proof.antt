@@ -1,4 +1,4 @@
--- `find` meets its contract: at each turn the place in what is left, counted from the whole row's start, is the place in the whole row.
+-- `slot_of` meets its contract: at each turn the place in what is left, counted from the whole row's start, is the place in the whole row.
 use Prim.Native.Nat.{ℕ, suc, _+_, _-_, _<_, _≤_}
 use native.Mathlib.Omega.{arith}
 use mathlib.Core.List.{List}
@@ -7,8 +7,8 @@ use lib.ListN.{length, drop}
 use borrow.Author.Needs.{needs}
 use Rattle.rules.specs.Basics.{place}
 use Rattle.laws.proofs.Places.{place-here, place-further, place-past}
-use Rattle.display.proofs.search.find.Statement.{statement}
-use Rattle.display.proofs.search.find.Tie as tie
+use Rattle.display.proofs.search.slot_of.Statement.{statement}
+use Rattle.display.proofs.search.slot_of.Tie as tie
 
 abbrev Inv-loop : tie.InvT-loop
 Inv-loop slots symbol slot₀ slot = (slot ≤ length slots) × (place symbol slots ≡ slot + place symbol (drop slot slots))
@@ -72,8 +72,8 @@ returns-2 c =
     place-past (s .args .symbol) (s .args .slots .now) (p .loop .slot) search in
     omega arith
 
-pub find-spec : {M : Type 1} → statement M
-find-spec =
+pub slot-of-spec : {M : Type 1} → statement M
+slot-of-spec =
     tie.close
     (tie.spec
     Inv-loop
