@@ -7,7 +7,6 @@ use mathlib.Core.List.{List, _∷_}
 use lib.ListN.{length, drop}
 use lib.Dec.{ltb}
 use borrow.Author.Tests.{lt-ltb, le-ltb, ltb-false, eqb-true, not-false}
-use Rattle.rules.specs.declared.Answer.{Answer}
 use Rattle.rules.specs.declared.JobReading.{JobReading}
 use Rattle.rules.specs.declared.JobReading.the-variants.{Taken}
 use Rattle.rules.specs.declared.ListReading.{ListReading}
@@ -15,16 +14,17 @@ use Rattle.rules.specs.declared.ListReading.the-variants.{Listed, Unreadable}
 use Rattle.rules.specs.declared.Shape.{Shape}
 use Rattle.rules.specs.Basics.{number32}
 use Rattle.rules.specs.Order.{Test, test, Verdict, clear, met}
-use Rattle.rules.specs.Job.{shapeOf, drawsOf, jobOf, most-slots, most-draws}
+use Rattle.rules.specs.Job.{Call, jobOf}
 use Rattle.rules.specs.LoadList.{head-size, countOf, eventsOf, eventsIn}
-use Rattle.rules.specs.Display.{refused}
+use Rattle.rules.specs.Display.{Run, refused}
 use Rattle.rules.specs.Refusals.{readJob, badList, readList, shortCheck, firstBadTick, follows, checkTests, checked, answerOf, ticksOf, slotsOf, lent}
 use Rattle.laws.proofs.Cases.{by-test, neither}
 use Rattle.laws.proofs.Verdicts.{Gives, stop, step, gives}
-use Rattle.laws.proofs.Jobs.{Proper, proper, draws-many, taken-shape}
+use Rattle.laws.proofs.Jobs.{limits}
 use Rattle.laws.proofs.Checks.{checked-met, checked-past}
 use Rattle.laws.proofs.Events.{length-eventsIn}
 use Rattle.sheet.specs.Size.{Sized}
+use Rattle.checker.specs.declared.checked.Checked.{Checked}
 use Rattle.checker.specs.Follow.{HasRoom, HandedOut}
 
 -- ---- The list
@@ -71,10 +71,10 @@ is-sized list head count is read = listed list count (sym is ∙ read) .sized
 -- ---- The room
 
 -- The test of the lent room, as the code has it from the shape that was read.
-pub room-test : (job : List ℕ) (reading : JobReading) (shape : Shape) (ticks slots : ℕ) (r : Bool) → reading ≡ readJob job
-    → reading ≡ Taken shape → r ≡ (ltb ticks (shape .draws) || ltb slots (shape .draws)) → r ≡ shortCheck job ticks slots
+pub room-test : (asked : Call) (reading : JobReading) (shape : Shape) (ticks slots : ℕ) (r : Bool) → reading ≡ readJob (asked .job)
+    → reading ≡ Taken shape → r ≡ (ltb ticks (shape .draws) || ltb slots (shape .draws)) → r ≡ shortCheck asked ticks slots
 unfolding shortCheck
-room-test job reading shape ticks slots r is taken e = rw (draws-many job shape (sym is ∙ taken)) e
+room-test asked reading shape ticks slots r is taken e = rw (limits asked shape (sym is ∙ taken) .many-draws) e
 
 -- ---- The order of the events
 
@@ -105,54 +105,44 @@ module _ (list : List ℕ) (head : ListReading) (count first : ℕ) where
 
 -- ---- The answer
 
-module _ (job list ticks slots : List ℕ) (answer : Answer) where
+-- What a check promises of its answer, of the number of its draws and of its two buffers.
+abbrev Promised : Run → Checked → List ℕ → List ℕ → List ℕ → List ℕ → Type 0
+Promised run r ticks ticks′ slots slots′ =
+    (r .answer ≡ answerOf run)
+    × ((r .draws ≡ length (ticksOf run))
+    × ((ticks′ ≡ lent (ticksOf run) ticks)
+    × (slots′ ≡ lent (slotsOf run) slots)))
+
+module _ (asked : Call) (list ticks slots : List ℕ) (r : Checked) where
+  abbrev run : Run
+  run = checked asked list (length ticks) (length slots)
+
   -- A check that is refused hands out nothing.
-  pub refuses : (n d : ℕ) → answer ≡ answerOf (refused n d) → Gives (checkTests job list (length ticks) (length slots)) (met n d)
-      → (answer ≡ answerOf (checked job list (length ticks) (length slots)))
-      × ((ticks ≡ lent (ticksOf (checked job list (length ticks) (length slots))) ticks)
-      × (slots ≡ lent (slotsOf (checked job list (length ticks) (length slots))) slots))
+  pub refuses : (n d : ℕ) → r ≡ record { answer = answerOf (refused n d); draws = 0 }
+      → Gives (checkTests asked list (length ticks) (length slots)) (met n d) → Promised run r ticks ticks slots slots
   refuses n d answers g =
-      let is : checked job list (length ticks) (length slots) ≡ refused n d =
-      checked-met job list (length ticks) (length slots) n d (gives _ _ g) in
-      (answers ∙ ap answerOf (sym is), (rw is, rw is))
+      let is : run ≡ refused n d = checked-met asked list (length ticks) (length slots) n d (gives _ _ g) in
+      rw (answers, is) (refl, (refl, (refl, refl)))
 
   -- Past all tests it hands out what its run does.
   pub hands-out : (head : ListReading) (count : ℕ) (ticks′ slots′ : List ℕ) → head ≡ readList list → head ≡ Listed count
-      → HandedOut (follows (jobOf job) (eventsIn count (drop head-size list))) answer ticks ticks′ slots slots′
-      → Gives (checkTests job list (length ticks) (length slots)) clear
-      → (answer ≡ answerOf (checked job list (length ticks) (length slots)))
-      × ((ticks′ ≡ lent (ticksOf (checked job list (length ticks) (length slots))) ticks)
-      × (slots′ ≡ lent (slotsOf (checked job list (length ticks) (length slots))) slots))
+      → HandedOut (follows (jobOf asked) (eventsIn count (drop head-size list))) r ticks ticks′ slots slots′
+      → Gives (checkTests asked list (length ticks) (length slots)) clear → Promised run r ticks ticks′ slots slots′
   hands-out head count ticks′ slots′ is read handed g =
-      let run : checked job list (length ticks) (length slots) ≡ follows (jobOf job) (eventsIn count (drop head-size list)) =
-      checked-past job list (length ticks) (length slots) (gives _ _ g)
-      ∙ ap (follows (jobOf job)) (same-events list head count is read) in
-      rw run (handed .answers, (handed .at, handed .from))
+      let same : run ≡ follows (jobOf asked) (eventsIn count (drop head-size list)) =
+      checked-past asked list (length ticks) (length slots) (gives _ _ g)
+      ∙ ap (follows (jobOf asked)) (same-events list head count is read) in
+      rw same (handed .answers, (handed .many, (handed .at, handed .from)))
 
 -- What the run asks for is known past the tests.
-pub roomy : (job list : List ℕ) (reading : JobReading) (head : ListReading) (shape : Shape) (count : ℕ) (ticks slots : List ℕ) (r : Bool)
-    → reading ≡ readJob job → reading ≡ Taken shape → head ≡ readList list → head ≡ Listed count
+pub roomy : (asked : Call) (list : List ℕ) (reading : JobReading) (head : ListReading) (shape : Shape) (count : ℕ) (ticks slots : List ℕ) (r : Bool)
+    → reading ≡ readJob (asked .job) → reading ≡ Taken shape → head ≡ readList list → head ≡ Listed count
     → r ≡ (ltb (length ticks) (shape .draws) || ltb (length slots) (shape .draws)) → r ≡ false
-    → HasRoom job list shape count ticks slots
-roomy job list reading head shape count ticks slots r is taken is′ read tested fails =
-    let p : Proper (jobOf job) = proper job shape (sym is ∙ taken) in
-    let same : shapeOf job ≡ shape = taken-shape job shape (sym is ∙ taken) in
-    let draws : length (drawsOf job) ≡ shape .draws = draws-many job shape (sym is ∙ taken) in
-    let few : length (drawsOf job) ≤ most-draws = p .few-draws in
-    let time : shapeOf job .time ≡ shape .time = ap (λ (s : Shape). s .time) same in
-    let some : 1 ≤ shapeOf job .time = p .some-time in
-    let row : shapeOf job .slots ≡ shape .slots = ap (λ (s : Shape). s .slots) same in
-    let short : shapeOf job .slots ≤ most-slots = p .few-slots in
+    → HasRoom asked list shape count ticks slots
+roomy asked list reading head shape count ticks slots r is taken is′ read tested fails =
     let (tick-room, slot-room) = neither (ltb (length ticks) (shape .draws)) (ltb (length slots) (shape .draws)) (sym tested ∙ fails) in
     record {
-      fit =
-          record {
-            shaped = sym same;
-            some-time = omega arith;
-            few-slots = omega arith;
-            few-draws = omega arith;
-            sized = is-sized list head count is′ read;
-          };
+      read = record { limits = limits asked shape (sym is ∙ taken); sized = is-sized list head count is′ read };
       tick-room = ltb-false _ _ tick-room;
       slot-room = ltb-false _ _ slot-room;
     }

@@ -20,6 +20,12 @@ copied-length from to i there here =
     length-append (take i from) (drop i to)
     ∙ rw (length-take-le i from there, length-drop i to) (omega arith)
 
+-- Both buffers once the draws before a place are copied.
+pub record Copied (draws : ℕ) (ticks₀ slots₀ at from ticks slots : List ℕ) (place : ℕ) : Type 0 where
+  pub upto : place ≤ draws
+  pub ticks-copied : ticks ≡ take place at ++ drop place ticks₀
+  pub slots-copied : slots ≡ take place from ++ drop place slots₀
+
 -- What was copied is what is lent: the front of the one, the rest of the other.
 pub copied-lent : (from to what : List ℕ) (i : ℕ) → i ≤ length from → take i from ≡ what → take i from ++ drop i to ≡ lent what to
 copied-lent from to what i there e =

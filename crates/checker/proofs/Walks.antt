@@ -22,12 +22,12 @@ use Rattle.display.specs.Tick.{Ticks, Counted, nextAfter}
 use Rattle.display.specs.Still.{passed, Rested}
 use Rattle.display.proofs.Stretches.{Quiet}
 use Rattle.display.proofs.Going.{Going, going-start, going-on}
-use Rattle.checker.specs.Follow.{Waits, noted}
+use Rattle.checker.specs.Follow.{NothingDue, noted}
 
--- ---- The waits behind a tick
+-- ---- The waits after a tick
 
-pub waits-none : (events : List Event) (d : Display) → Waits events d 0
-waits-none events d =
+pub still-none : (events : List Event) (d : Display) → NothingDue events d 0
+still-none events d =
     record {
       none-due = λ j less. absurd (omega arith);
       before-end = λ ends. omega arith;
@@ -35,8 +35,8 @@ waits-none events d =
     }
 
 -- A stretch may be cut short.
-pub waits-fewer : (events : List Event) (d : Display) (m n : ℕ) → n ≤ m → Waits events d m → Waits events d n
-waits-fewer events d m n fewer w =
+pub still-fewer : (events : List Event) (d : Display) (m n : ℕ) → n ≤ m → NothingDue events d m → NothingDue events d n
+still-fewer events d m n fewer w =
     record {
       none-due = λ j less. w .none-due j (omega arith);
       before-end = λ ends. w .before-end (omega arith);
@@ -44,7 +44,7 @@ waits-fewer events d m n fewer w =
     }
 
 -- Each tick of the stretch is a wait and no more, whatever the slots hold.
-pub calm : (job : Job) (events : List Event) (slots : List ℕ) (h : History) (d : Display) (m : ℕ) → Waits events d m → (j : ℕ) → j < m
+pub calm : (job : Job) (events : List Event) (slots : List ℕ) (h : History) (d : Display) (m : ℕ) → NothingDue events d m → (j : ℕ) → j < m
     → Quiet job (follow events) slots h (passed j d)
 calm job events slots h d m w j less =
     record {
@@ -76,11 +76,19 @@ noted-length (Wait cause) what at buffer = refl
 
 -- ---- The loop
 
--- What holds at the loop's head, with h beside the display: the run is on its way, and the draws made so far stand noted.
+-- What holds at the loop's head, with this history: the run is on its way, and the draws made so far are noted.
 pub record Walking (job : Job) (events : List Event) (held : List ℕ) (d : Display) (ticks slots : List ℕ) (h : History) : Type 0 where
   pub along : Going job (follow events) (mostTicks job) held d h
   pub at : map tickOf (h .made) ≡ take (d .next) ticks
   pub from : map slotOf (h .made) ≡ take (d .next) slots
+
+-- The loop's invariant, told from what was lent: slots and places are as many as they were, and the run is on its way with some history.
+pub record Turn (job : Job) (events : List Event) (held₀ ticks₀ slots₀ held ticks slots : List ℕ) (d : Display) : Type 0 where
+  pub same-slots : length held ≡ length held₀
+  pub tick-places : length ticks ≡ length ticks₀
+  pub slot-places : length slots ≡ length slots₀
+  pub history : History
+  pub walking : Walking job events held d ticks slots history
 
 module _ (job : Job) (events : List Event) where
   pub walking-start : (held : List ℕ) (d : Display) (ticks slots : List ℕ) (h : History) → view held h d ≡ start job
@@ -94,11 +102,11 @@ module _ (job : Job) (events : List Event) where
         from = rw (made′, next′);
       }
 
-  -- A tick that was not refused, and the waits behind it.
+  -- A tick that was not refused, and the waits after it.
   module _ (held : List ℕ) (d : Display) (ticks slots : List ℕ) (h : History) (w : Walking job events held d ticks slots h)
       (within : d .next < length (job .draws)) (early : d .tick < mostTicks job) (held′ : List ℕ) (r : Ticked)
       (ticked : Ticks job (follow events) held held′ d r) (went : r .number ≡ 0) (later : Display)
-      (rested : Rested (Waits events (r .display)) (mostTicks job) (r .on_record .happening) (r .display) later) where
+      (rested : Rested (NothingDue events (r .display)) (mostTicks job) (r .on_record .happening) (r .display) later) where
     counts : Counted 1 (r .on_record .happening) d (r .display)
     counts = ticked .counts went
 
@@ -115,7 +123,7 @@ module _ (job : Job) (events : List Event) where
         record {
           along =
               going-on job (follow events) (mostTicks job) held d h (w .along) within early held′ r ticked went
-              (Waits events (r .display)) later rested (calm job events held′ (onward d (r .on_record) h) (r .display));
+              (NothingDue events (r .display)) later rested (calm job events held′ (onward d (r .on_record) h) (r .display));
           at =
               noted-more tickOf (λ q. d .tick) d (r .on_record .happening) (historyBegun d (r .on_record .begun) h) (d .next) ticks (λ q. refl) room
               (ap (λ (l : List Drawn). map tickOf l) (begun-made d (r .on_record .begun) h) ∙ w .at)

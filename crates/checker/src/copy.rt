@@ -1,27 +1,18 @@
-// Handing out: the front of a buffer of the check's own into the front of a lent one, whose rest stays as it is.
+// Handing out: the draws that a run has noted, copied to the front of the two lent buffers. What comes after them stays as it is.
 ghost use mathlib.Core.Path.{_≡_};
 ghost use mathlib.Core.List.{_++_};
-ghost use Prim.Native.Nat.{_≤_};
-ghost use lib.ListN.{length, take, drop};
+ghost use lib.ListN.{take, drop};
+ghost use Rattle.checker.specs.Follow.{CopyRoom};
 
-pub fn copy_ticks(to: &mut [u32], from: &[u32], count: u16)
-    requires { ⌜ (count ≤ length (now to)) × (count ≤ length (now from)) ⌝ }
-    ensures { λ r. ⌜ now (to .exit) ≡ take count (now (from .entry)) ++ drop count (now (to .entry)) ⌝ }
+pub fn copy_draws(ticks: &mut [u32], slots: &mut [u8], at: &[u32], from: &[u8], draws: u16)
+    requires { ⌜ CopyRoom draws (now ticks) (now slots) (now at) (now from) ⌝ }
+    ensures ticks { λ r. ⌜ now (ticks .exit) ≡ take draws (now (at .entry)) ++ drop draws (now (ticks .entry)) ⌝ }
+    ensures slots { λ r. ⌜ now (slots .exit) ≡ take draws (now (from .entry)) ++ drop draws (now (slots .entry)) ⌝ }
 {
     let mut place: usize = 0;
-    while place < count as usize {
-        to[place] = from[place];
-        place += 1;
-    }
-}
-
-pub fn copy_slots(to: &mut [u8], from: &[u8], count: u16)
-    requires { ⌜ (count ≤ length (now to)) × (count ≤ length (now from)) ⌝ }
-    ensures { λ r. ⌜ now (to .exit) ≡ take count (now (from .entry)) ++ drop count (now (to .entry)) ⌝ }
-{
-    let mut place: usize = 0;
-    while place < count as usize {
-        to[place] = from[place];
+    while place < draws as usize {
+        ticks[place] = at[place];
+        slots[place] = from[place];
         place += 1;
     }
 }

@@ -10,16 +10,15 @@ use rules::EventReading;
 use rules::MaybeLoad;
 use rules::Shape;
 ghost use mathlib.Core.Path.{_≡_};
-ghost use Prim.Native.Nat.{_<_};
-ghost use lib.ListN.{length, drop};
-ghost use Rattle.rules.specs.Job.{jobOf};
+ghost use lib.ListN.{drop};
+ghost use Rattle.rules.specs.Job.{call, jobOf};
 ghost use Rattle.rules.specs.LoadList.{eventsIn, head-size};
 ghost use Rattle.rules.specs.Refusals.{due, follow};
-ghost use Rattle.display.specs.Tick.{Room, Ticks};
+ghost use Rattle.display.specs.Tick.{Ticks};
 ghost use Rattle.sheet.specs.Size.{Sized};
-ghost use Rattle.checker.specs.Follow.{Fit};
+ghost use Rattle.checker.specs.Follow.{MayTick};
 
-// What the list asks for in this tick, when so many of its loads have begun.
+// What the list asks for in this tick, when this many of its loads have begun.
 fn asked_of(list: &[u8], count: u16, loads: u32, tick: u32) -> MaybeLoad
     requires { ⌜ Sized count (now list) ⌝ }
     ensures { λ r. ⌜ r ≡ due (drop loads (eventsIn count (drop head-size (now (list .entry))))) tick ⌝ }
@@ -51,16 +50,16 @@ pub fn follow_tick(
     held: &mut [u16],
     d: Display,
 ) -> Ticked
-    requires { ⌜ Fit (now job) (now list) shape count × (length (now held) ≡ shape .slots) × Room d × (d .loads < 4294967295) × (d .next < shape .draws) ⌝ }
-    ensures { λ r. ⌜ Ticks (jobOf (now (job .entry))) (follow (eventsIn count (drop head-size (now (list .entry))))) (now (held .entry)) (now (held .exit)) d r ⌝ }
+    requires { ⌜ MayTick (call (now job)) (now list) shape count (now held) d ⌝ }
+    ensures { λ r. ⌜ Ticks (jobOf (call (now (job .entry)))) (follow (eventsIn count (drop head-size (now (list .entry))))) (now (held .entry)) (now (held .exit)) d r ⌝ }
 {
     let landed = land(held, d);
-    let symbol = sheet::draw_symbol(job, shape.slots, landed.next);
     let asked = asked_of(list, count, landed.loads, landed.tick);
     let number = load_refusal(held, landed, asked);
     if number != 0 {
         return refused_load(landed, number);
     }
-    let begun = begin(held, landed, shape.time, asked);
+    let begun = begin(held, landed, shape.load_time, asked);
+    let symbol = sheet::draw_symbol(job, shape.slots, landed.next);
     draw_or_wait(held, begun, asked, symbol, count as u32 <= landed.loads)
 }

@@ -1,4 +1,4 @@
-// The waits behind a tick along a list: how many of them bring nothing else, and the display behind them all.
+// The waits after a tick along a list: how many of them bring nothing else, and the display after them all.
 use display::Display;
 use display::before_end;
 use display::pass_waits;
@@ -6,14 +6,14 @@ use display::smaller;
 use rules::EventReading;
 use rules::Happening;
 ghost use mathlib.Core.Path.{_≡_};
-ghost use Prim.Native.Nat.{ℕ, _+_, _≤_, _<_};
+ghost use Prim.Native.Nat.{ℕ, _+_, _<_};
 ghost use lib.ListN.{drop};
 ghost use Rattle.rules.specs.declared.MaybeLoad.the-variants.{NoLoad};
 ghost use Rattle.rules.specs.LoadList.{eventsIn, head-size};
 ghost use Rattle.rules.specs.Refusals.{due};
 ghost use Rattle.display.specs.Still.{Rested};
 ghost use Rattle.sheet.specs.Size.{Sized};
-ghost use Rattle.checker.specs.Follow.{Waits};
+ghost use Rattle.checker.specs.Follow.{NothingDue, MayWait};
 
 // The ticks from this one on before that of the next event.
 fn ticks_ahead(list: &[u8], count: u16, loads: u32, tick: u32) -> u32
@@ -39,7 +39,7 @@ fn ticks_ahead(list: &[u8], count: u16, loads: u32, tick: u32) -> u32
 // up to the end of the load under way.
 fn still_ticks(list: &[u8], count: u16, d: Display) -> u32
     requires { ⌜ Sized count (now list) ⌝ }
-    ensures { λ r. ⌜ Waits (eventsIn count (drop head-size (now (list .entry)))) d r ⌝ }
+    ensures { λ r. ⌜ NothingDue (eventsIn count (drop head-size (now (list .entry)))) d r ⌝ }
 {
     if count as u32 <= d.loads {
         return before_end(d);
@@ -51,11 +51,11 @@ fn still_ticks(list: &[u8], count: u16, d: Display) -> u32
     smaller(ahead, before_end(d))
 }
 
-// The display behind the waits that follow a tick in which this happened: as far as nothing else can come up, and no further than the
-// limit. A draw may be followed by another, so behind it no tick is passed over.
+// The display after the waits that follow a tick in which this happened: as far as nothing else can come up, and no further than the
+// limit. A draw may be followed by another, so after it no tick is passed over.
 pub fn after_waits(list: &[u8], count: u16, d: Display, happening: Happening, limit: u32) -> Display
-    requires { ⌜ Sized count (now list) × (d .tick ≤ limit) × (d .waits ≤ d .tick) ⌝ }
-    ensures { λ r. ⌜ Rested (Waits (eventsIn count (drop head-size (now (list .entry)))) d) limit happening d r ⌝ }
+    requires { ⌜ MayWait (now list) count d limit ⌝ }
+    ensures { λ r. ⌜ Rested (NothingDue (eventsIn count (drop head-size (now (list .entry)))) d) limit happening d r ⌝ }
 {
     match happening {
         Happening::Draw { slot: _ } => d,

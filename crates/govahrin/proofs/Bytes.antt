@@ -1,4 +1,4 @@
--- Ticks as four bytes each: how many bytes they are, and one tick more behind those that stand in lent memory.
+-- Ticks as four bytes each: how many bytes they are, and one tick more after those that are in lent memory.
 use Prim.Native.Nat.{ℕ, _+_, _*_, _<_, _≤_}
 use native.Mathlib.Omega.{arith}
 use native.Mathlib.Numerals.{add-one}
@@ -19,7 +19,7 @@ unfolding tickBytes
 one-more [] t = refl
 one-more (x ∷ l) t = ap (λ (r : List ℕ). bytes32 x ++ r) (one-more l t)
 
--- What is written behind what was written is written with it.
+-- What is written after what was written is written with it.
 grown : (b new to : List ℕ) (n : ℕ) → length b ≡ n → take n (lent b to) ++ new ++ drop (n + length new) (lent b to) ≡ lent (b ++ new) to
 grown b new to n e =
     rw (take-at b (drop (length b) to) n e, ← e, drop-append-add b (drop (length b) to) (length new), drop-drop (length new) (length b) to, length-append b new)

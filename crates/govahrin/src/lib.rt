@@ -2,35 +2,36 @@
 // Here the tick of a draw is four big-endian bytes; all else is as in the crates below. No function asks anything of its caller.
 mod ticks;
 
+use checker::Checked;
 use rules::Answer;
+use rules::MOST_DRAWS;
 use ticks::put_ticks;
 use ticks::tick_places;
 ghost use mathlib.Core.Path.{_≡_};
 ghost use Prim.Native.Nat.{_≤_};
 ghost use lib.ListN.{length};
+ghost use Rattle.rules.specs.Job.{call};
+ghost use Rattle.govahrin.specs.Reports.{Reports};
 ghost use Rattle.rules.specs.Refusals.{checked, checkedForC, planned, answerOf, ticksOf, slotsOf, tickBytes, writtenBy, lent};
 
 // The plan of a job, its list written into the room.
 #[no_mangle]
 pub extern "C" fn govahrin_plan(job: &[u8], plan: u32, room: &mut [u8]) -> Answer
-    ensures answers { λ r. ⌜ r ≡ answerOf (planned (now (job .entry)) plan (length (now (room .entry)))) ⌝ }
-    ensures writes { λ r. ⌜ now (room .exit) ≡ lent (writtenBy (planned (now (job .entry)) plan (length (now (room .entry))))) (now (room .entry)) ⌝ }
+    ensures answers { λ r. ⌜ r ≡ answerOf (planned (call (now (job .entry))) plan (length (now (room .entry)))) ⌝ }
+    ensures writes { λ r. ⌜ now (room .exit) ≡ lent (writtenBy (planned (call (now (job .entry))) plan (length (now (room .entry))))) (now (room .entry)) ⌝ }
 {
     planner::plan(job, plan, room)
 }
 
-// A check that has so many places at the front of a row for its ticks.
-fn check_in(job: &[u8], list: &[u8], row: &mut [u32], places: usize, slots: &mut [u8]) -> Answer
+// A check whose places for ticks are the first of a row.
+fn check_in(job: &[u8], list: &[u8], row: &mut [u32], places: usize, slots: &mut [u8]) -> Checked
     requires { ⌜ places ≤ length (now row) ⌝ }
-    ensures answer { λ r. ⌜ r ≡ answerOf (checked (now (job .entry)) (now (list .entry)) places (length (now (slots .entry)))) ⌝ }
-    ensures ticks { λ r. ⌜ now (row .exit) ≡ lent (ticksOf (checked (now (job .entry)) (now (list .entry)) places (length (now (slots .entry))))) (now (row .entry)) ⌝ }
-    ensures slots { λ r. ⌜ now (slots .exit) ≡ lent (slotsOf (checked (now (job .entry)) (now (list .entry)) places (length (now (slots .entry))))) (now (slots .entry)) ⌝ }
+    ensures { λ r. ⌜ Reports (checked (call (now (job .entry))) (now (list .entry)) places (length (now (slots .entry)))) r (now (row .entry)) (now (row .exit)) (now (slots .entry)) (now (slots .exit)) ⌝ }
 {
-    checker::check(job, list, &mut row[..places], slots)
+    checker::check_draws(job, list, &mut row[..places], slots)
 }
 
-// The check of a list against a job. Elapsed without the waits is the draws of an accepted list, and 0 of a refused one, so that then
-// nothing is written.
+// The check of a list against a job. Its ticks are written last, as many as it reports draws.
 #[no_mangle]
 pub extern "C" fn govahrin_check(
     job: &[u8],
@@ -38,14 +39,13 @@ pub extern "C" fn govahrin_check(
     ticks: &mut [u8],
     slots: &mut [u8],
 ) -> Answer
-    ensures answer { λ r. ⌜ r ≡ answerOf (checkedForC (now (job .entry)) (now (list .entry)) (length (now (ticks .entry))) (length (now (slots .entry)))) ⌝ }
-    ensures ticks { λ r. ⌜ now (ticks .exit) ≡ lent (tickBytes (ticksOf (checkedForC (now (job .entry)) (now (list .entry)) (length (now (ticks .entry))) (length (now (slots .entry)))))) (now (ticks .entry)) ⌝ }
-    ensures slots { λ r. ⌜ now (slots .exit) ≡ lent (slotsOf (checkedForC (now (job .entry)) (now (list .entry)) (length (now (ticks .entry))) (length (now (slots .entry))))) (now (slots .entry)) ⌝ }
+    ensures answer { λ r. ⌜ r ≡ answerOf (checkedForC (call (now (job .entry))) (now (list .entry)) (length (now (ticks .entry))) (length (now (slots .entry)))) ⌝ }
+    ensures ticks { λ r. ⌜ now (ticks .exit) ≡ lent (tickBytes (ticksOf (checkedForC (call (now (job .entry))) (now (list .entry)) (length (now (ticks .entry))) (length (now (slots .entry)))))) (now (ticks .entry)) ⌝ }
+    ensures slots { λ r. ⌜ now (slots .exit) ≡ lent (slotsOf (checkedForC (call (now (job .entry))) (now (list .entry)) (length (now (ticks .entry))) (length (now (slots .entry))))) (now (slots .entry)) ⌝ }
 {
-    let mut row = [0u32; 4096];
+    let mut row = [0u32; MOST_DRAWS as usize];
     let places = tick_places(ticks.len());
-    let answer = check_in(job, list, &mut row, places, slots);
-    let draws = (answer.elapsed - answer.waits) as usize;
-    put_ticks(ticks, &row, draws);
-    answer
+    let checked = check_in(job, list, &mut row, places, slots);
+    put_ticks(ticks, &row, checked.draws);
+    checked.answer
 }

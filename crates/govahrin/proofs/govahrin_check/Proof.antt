@@ -1,10 +1,9 @@
--- `govahrin_check` meets its contract: the check in few places is the check for C, and its draws are elapsed without the waits.
-use Prim.Native.Nat.{ℕ, _-_, _≤_}
+-- `govahrin_check` meets its contract: the check in as many places as a job can need is the check for C.
+use Prim.Native.Nat.{ℕ, _≤_}
 use native.Mathlib.Omega.{arith}
-use lib.ListN.{length}
 use borrow.Author.Needs.{needs}
-use Rattle.rules.specs.declared.Answer.{Answer}
-use Rattle.govahrin.proofs.Places.{noted-draws, as-for-C}
+use Rattle.rules.specs.Job.{call}
+use Rattle.govahrin.proofs.Places.{few-draws, as-for-C}
 use Rattle.govahrin.proofs.govahrin_check.Statement.{statement}
 use Rattle.govahrin.proofs.govahrin_check.Tie as tie
 
@@ -28,22 +27,10 @@ module _ (p : tie.After-check-in) where
   abbrev places : ℕ
   places = at-places .tick-places .result
 
-  abbrev answer : Answer
-  answer = p .check-in .result
-
-  enough : (answer .waits ≤ answer .elapsed) × (answer .elapsed - answer .waits ≤ places)
-  enough =
+  few : p .check-in .result .draws ≤ places
+  few =
       let a = at-start .args in
-      let noted = noted-draws (a .job .now) (a .list .now) places (length (a .slots .now)) answer (p .check-in .ensures .0) in
-      (noted .0, noted .1)
-
-sub-draws : tie.Need-sub-draws
-sub-draws c =
-    let p : tie.After-check-in = search in
-    enough p .0
-
-cast-draws : tie.Need-cast-draws
-cast-draws c = search needs
+      few-draws (call (a .job .now)) (a .list .now) _ _ (a .slots .now) _ places (p .check-in .result) (p .check-in .ensures)
 
 slice-aggregate-put-ticks : tie.Need-slice-aggregate-put-ticks
 slice-aggregate-put-ticks c = search needs
@@ -51,9 +38,9 @@ slice-aggregate-put-ticks c = search needs
 put-ticks-requires : tie.Need-put-ticks-requires
 put-ticks-requires c κs =
     let p : tie.After-check-in = search in
-    let few = enough p .1 in
-    let places = at-places p .tick-places .ensures in
-    (omega (arith, places), omega (arith, places))
+    let most = few p in
+    let room = at-places p .tick-places .ensures in
+    record { to = omega (arith, room); from = omega (arith, room) }
 
 same-length : tie.Need-same-length
 same-length c = search needs
@@ -70,7 +57,7 @@ returns c =
     let p = at-check t in
     let a = at-start p .args in
     let k = p .check-in in
-    as-for-C (a .job .now) (a .list .now) _ (k .last .1 .1 .0) (a .slots .now) (k .last .1 .1 .1 .1 .0) (places p) (k .result) (a .ticks .now)
+    as-for-C (call (a .job .now)) (a .list .now) _ (k .last .1 .1 .0) (a .slots .now) (k .last .1 .1 .1 .1 .0) (places p) (k .result) (a .ticks .now)
     (t .put-ticks .last .0) (at-places p .tick-places .ensures) (k .ensures) (t .put-ticks .ensures)
 
 pub govahrin-check-spec : {M : Type 1} → statement M
@@ -80,8 +67,6 @@ govahrin-check-spec =
     tick-places-requires
     slice-aggregate-check-in
     check-in-requires
-    sub-draws
-    cast-draws
     slice-aggregate-put-ticks
     put-ticks-requires
     same-length

@@ -1,57 +1,22 @@
--- `check` meets its contract: its tests are walked in the order of the definition, whatever that order is.
-use lib.ListN.{length}
+-- `check` meets its contract: it is `check_draws` without the number of draws.
 use borrow.Author.Needs.{needs}
-use Rattle.rules.specs.Order.{clear}
-use Rattle.rules.specs.Refusals.{checkTests}
-use Rattle.laws.proofs.Verdicts.{Gives, end, stop, step}
-use Rattle.laws.proofs.Jobs.{at-job, past-job}
-use Rattle.checker.proofs.Answers.{at-list, past-list, is-sized, room-test, at-order, past-order, refuses, hands-out, roomy}
 use Rattle.checker.proofs.answer.check.Statement.{statement}
 use Rattle.checker.proofs.answer.check.Tie as tie
 
-ruleset walk = (at-job, past-job, at-list, past-list, stop, step, end, room-test, at-order, past-order, is-sized, roomy)
+check-draws-requires : tie.Need-check-draws-requires
+check-draws-requires c κs = search needs
 
--- Where the list is handed out all tests are walked. What lies behind that call is too much for a search, so it is walked in front of it.
-abbrev in-front : tie.After-hand-out → tie.After-hand-out-arg
-in-front p = search
+same-length : tie.Need-same-length
+same-length c = search needs
 
-abbrev at-start : tie.After-hand-out-arg → tie.Start
-at-start p = search
+same-length-2 : tie.Need-same-length-2
+same-length-2 c = search needs
 
-abbrev at-list-read : tie.After-hand-out-arg → tie.After-read-list
-at-list-read p = search
-
-past-tests : (p : tie.After-hand-out-arg)
-    → Gives
-    (checkTests (at-start p .args .job .now) (at-start p .args .list .now) (length (at-start p .args .ticks .now)) (length (at-start p .args .slots .now)))
-    clear
-past-tests p = search walk depth 20 fits 4000
+returns : tie.Need-returns
+returns c =
+    let after : tie.After-check-draws = search in
+    let (answer, (draws, buffers)) = after .check-draws .ensures in
+    (answer, buffers)
 
 pub check-spec : {M : Type 1} → statement M
-check-spec =
-    tie.close
-    (tie.spec
-    (λ c κs. search needs)
-    (λ c. search needs)
-    (λ c. search needs)
-    (λ c κs. search needs)
-    (λ c κs. search needs)
-    (λ c. refuses _ _ _ _ _ (let p : tie.After-number-of = search in p .number-of .result) 0 (search) (search walk depth 20 fits 4000))
-    (λ c κs. search needs)
-    (λ c. search needs)
-    (λ c. search needs)
-    (λ c κs. search needs)
-    (λ c. refuses _ _ _ _ _ 8 0 (search) (search walk depth 20 fits 4000))
-    (λ c κs. search needs)
-    (λ c κs. search needs)
-    (λ c. refuses _ _ _ _ _ 7 0 (search) (search walk depth 20 fits 4000))
-    (λ c κs. search walk depth 20 fits 4000)
-    (λ c. search needs)
-    (λ c κs. search needs)
-    (λ c. refuses _ _ _ _ _ 9 (let p : tie.After-first-bad-tick = search in p .first-bad-tick .result) (search) (search walk depth 20 fits 4000))
-    (λ c κs. search walk depth 20 fits 4000)
-    (λ c. search needs)
-    (λ c. search needs)
-    (λ c.
-    let p : tie.After-hand-out = search in
-    hands-out _ _ _ _ _ (at-list-read (in-front p) .read-list .result) _ _ _ (search) (search) (p .hand-out .ensures) (past-tests (in-front p))))
+check-spec = tie.close (tie.spec check-draws-requires same-length same-length-2 returns)

@@ -2,15 +2,16 @@
 use Prim.Native.Nat.{ℕ, _≤_}
 use native.Mathlib.Omega.{arith}
 use mathlib.Core.List.{List}
-use mathlib.Core.Path.{_≡_, sym, _∙_}
+use mathlib.Core.Path.{_≡_, sym, ap, _∙_}
 use lib.ListN.{length, take}
+use lib.Seq.{length-take-le}
 use borrow.Author.Needs.{needs}
-use Rattle.rules.specs.Job.{startingOf, drawsOf}
+use Rattle.rules.specs.Job.{Call, call, startingSymbols, drawsOf}
 use Rattle.rules.specs.declared.Shape.{Shape}
 use Rattle.sheet.proofs.Rows.{row-starts}
-use Rattle.checker.specs.Follow.{Fit}
+use Rattle.laws.specs.Limits.{Limits}
 use Rattle.checker.proofs.Copies.{copied-lent}
-use Rattle.checker.proofs.Ends.{draws-read, starting-size}
+use Rattle.checker.proofs.Ends.{starting-size}
 use Rattle.checker.proofs.answer.hand_out.Statement.{statement}
 use Rattle.checker.proofs.answer.hand_out.Tie as tie
 
@@ -28,25 +29,25 @@ module _ (p : tie.After-starting-slots) where
   abbrev at-start : tie.Start
   at-start = search
 
-  abbrev job : List ℕ
-  job = at-start .args .job .now
+  abbrev asked : Call
+  asked = call (at-start .args .job .now)
 
   abbrev shape : Shape
   shape = at-start .args .shape
 
-  fit : Fit job (at-start .args .list .now) shape (at-start .args .count)
-  fit = at-start .pre .fit
+  limits : Limits asked shape
+  limits = at-start .pre .read .limits
 
-  many : length (drawsOf job) ≡ shape .draws
-  many = draws-read job shape (fit .shaped)
+  many : length (drawsOf asked) ≡ shape .draws
+  many = limits .many-draws
 
-  starts : take (shape .slots) (p .starting-slots .result) ≡ startingOf job
-  starts = row-starts job shape (p .starting-slots .result) (fit .shaped) (fit .few-slots) (p .starting-slots .ensures)
+  starts : take (shape .slots) (p .starting-slots .result) ≡ startingSymbols (asked .job)
+  starts = row-starts (asked .job) shape (p .starting-slots .result) (limits .shaped) (limits .few-slots) (p .starting-slots .ensures)
 
 slice-aggregate-run-list : tie.Need-slice-aggregate-run-list
 slice-aggregate-run-list c =
     let p : tie.After-starting-slots = search in
-    sym (starting-size (job p) (shape p) (fit p .shaped) _ (starts p))
+    sym (starting-size (limits p) _ (starts p))
 
 slice-aggregate-run-list-2 : tie.Need-slice-aggregate-run-list-2
 slice-aggregate-run-list-2 c = search needs
@@ -57,7 +58,7 @@ slice-aggregate-run-list-3 c = search needs
 run-list-requires : tie.Need-run-list-requires
 run-list-requires c κs =
     let p : tie.After-starting-slots = search in
-    record { fit = fit p; starts = starts p; tick-room = search needs; slot-room = search needs }
+    record { read = at-start p .pre .read; starts = starts p; tick-room = search needs; slot-room = search needs }
 
 -- The run has ended: as many draws are noted as both the own and the lent buffers have room for.
 module _ (p : tie.After-run-list) where
@@ -70,38 +71,33 @@ module _ (p : tie.After-run-list) where
   abbrev noted′ : List ℕ
   noted′ = p .run-list .last .1 .1 .1 .1 .1 .1 .0
 
-  own-room : (p .run-list .result .drawn ≤ length noted) × (p .run-list .result .drawn ≤ length noted′)
+  own-room : (p .run-list .result .draws ≤ length noted) × (p .run-list .result .draws ≤ length noted′)
   own-room =
       let few = p .run-list .ensures .few in
       let draws = many at-slots in
-      let most = fit at-slots .few-draws in
+      let most = limits at-slots .few-draws in
       let long = p .run-list .kept .1 .1 .1 .1 .1 .0 in
       let long′ = p .run-list .kept .1 .1 .1 .1 .1 .1 .0 in
       (omega (arith, few, long), omega (arith, few, long′))
 
-  lent-room : (p .run-list .result .drawn ≤ length (at-start at-slots .args .ticks .now))
-      × (p .run-list .result .drawn ≤ length (at-start at-slots .args .slots .now))
+  lent-room : (p .run-list .result .draws ≤ length (at-start at-slots .args .ticks .now))
+      × (p .run-list .result .draws ≤ length (at-start at-slots .args .slots .now))
   lent-room =
       let few = p .run-list .ensures .few in
       let draws = many at-slots in
       let pre = at-start at-slots .pre in
       (omega (arith, few, pre), omega (arith, few, pre))
 
-slice-aggregate-copy-ticks : tie.Need-slice-aggregate-copy-ticks
-slice-aggregate-copy-ticks c = search needs
+slice-aggregate-copy-draws : tie.Need-slice-aggregate-copy-draws
+slice-aggregate-copy-draws c = search needs
 
-copy-ticks-requires : tie.Need-copy-ticks-requires
-copy-ticks-requires c κs =
+slice-aggregate-copy-draws-2 : tie.Need-slice-aggregate-copy-draws-2
+slice-aggregate-copy-draws-2 c = search needs
+
+copy-draws-requires : tie.Need-copy-draws-requires
+copy-draws-requires c κs =
     let p : tie.After-run-list = search in
-    (lent-room p .0, own-room p .0)
-
-slice-aggregate-copy-slots : tie.Need-slice-aggregate-copy-slots
-slice-aggregate-copy-slots c = search needs
-
-copy-slots-requires : tie.Need-copy-slots-requires
-copy-slots-requires c κs =
-    let p : tie.After-run-list = search in
-    (lent-room p .1, own-room p .1)
+    record { ticks-to = lent-room p .0; slots-to = lent-room p .1; ticks-from = own-room p .0; slots-from = own-room p .1 }
 
 same-length : tie.Need-same-length
 same-length c = search needs
@@ -109,21 +105,21 @@ same-length c = search needs
 same-length-2 : tie.Need-same-length-2
 same-length-2 c = search needs
 
-abbrev at-run : tie.After-copy-ticks → tie.After-run-list
+abbrev at-run : tie.After-copy-draws → tie.After-run-list
 at-run p = search
 
 returns : tie.Need-returns
 returns c =
-    let slots : tie.After-copy-slots = search in
-    let ticks : tie.After-copy-ticks = search in
-    let p = at-run ticks in
+    let copied : tie.After-copy-draws = search in
+    let p = at-run copied in
     let a = at-start (at-slots p) .args in
     let shown = p .run-list .ensures in
-    let drawn = p .run-list .result .drawn in
+    let draws = p .run-list .result .draws in
     record {
       answers = shown .answers;
-      at = ticks .copy-ticks .ensures ∙ copied-lent (noted p) (a .ticks .now) _ drawn (own-room p .0) (shown .at);
-      from = slots .copy-slots .ensures ∙ copied-lent (noted′ p) (a .slots .now) _ drawn (own-room p .1) (shown .from);
+      many = sym (length-take-le draws (noted p) (own-room p .0)) ∙ ap length (shown .at);
+      at = copied .copy-draws .ensures .0 ∙ copied-lent (noted p) (a .ticks .now) _ draws (own-room p .0) (shown .at);
+      from = copied .copy-draws .ensures .1 ∙ copied-lent (noted′ p) (a .slots .now) _ draws (own-room p .1) (shown .from);
     }
 
 pub hand-out-spec : {M : Type 1} → statement M
@@ -137,10 +133,9 @@ hand-out-spec =
     slice-aggregate-run-list-2
     slice-aggregate-run-list-3
     run-list-requires
-    slice-aggregate-copy-ticks
-    copy-ticks-requires
-    slice-aggregate-copy-slots
-    copy-slots-requires
+    slice-aggregate-copy-draws
+    slice-aggregate-copy-draws-2
+    copy-draws-requires
     same-length
     same-length-2
     returns)

@@ -1,4 +1,4 @@
--- `asked_of` meets its contract: the event behind those begun is due, or is not, or there is none.
+-- `asked_of` meets its contract: the event after those begun is due, or is not, or there is none.
 use Prim.Native.Nat.{ℕ, _+_, _<_}
 use native.Mathlib.Omega.{arith}
 use mathlib.Core.List.{List, _∷_}
@@ -37,7 +37,7 @@ returns-2 c =
     let short : e .event-of .result ≡ Short = search in
     absurd (never-short (s .args .count) (s .args .loads) (s .args .list .now) left (s .pre) (sym (e .event-of .ensures) ∙ short))
 
--- The event behind those begun.
+-- The event after those begun.
 module _ (p : tie.After-reading) where
   abbrev at-event : tie.After-event-of
   at-event = search

@@ -1,11 +1,11 @@
--- `after_waits` meets its contract: behind a draw no tick is passed over, behind a wait as many as are still.
+-- `after_waits` meets its contract: after a draw no tick is passed over, after a wait as many as are still.
 use Prim.Native.Nat.{_-_, _≤_, min}
 use native.Mathlib.Omega.{arith}
 use mathlib.Core.Path.{_≡_, ap}
 use borrow.Author.Needs.{needs}
 use Rattle.display.proofs.Stretches.{rested-none}
 use Rattle.display.specs.Still.{waiting}
-use Rattle.checker.proofs.Walks.{waits-none, waits-fewer}
+use Rattle.checker.proofs.Walks.{still-none, still-fewer}
 use Rattle.checker.proofs.rest.after_waits.Statement.{statement}
 use Rattle.checker.proofs.rest.after_waits.Tie as tie
 
@@ -31,7 +31,7 @@ returns : tie.Need-returns
 returns c =
     let s : tie.Start = search in
     let a = s .args in
-    rested-none _ (a .limit) (a .happening) (a .d) (s .pre .1) (waits-none _ (a .d))
+    rested-none _ (a .limit) (a .happening) (a .d) (s .pre .in-time) (still-none _ (a .d))
 
 returns-2 : tie.Need-returns-2
 returns-2 c =
@@ -43,14 +43,14 @@ returns-2 c =
     let m = still .still-ticks .result in
     let n = fewer .smaller .result in
     let least : n ≡ min (a .limit - a .d .tick) m = fewer .smaller .ensures in
-    let early : a .d .tick ≤ a .limit = s .pre .1 in
+    let early : a .d .tick ≤ a .limit = s .pre .in-time in
     let waits : tie.After-enum-told2 = search in
     record {
       many = n;
       passes = after .pass-waits .ensures;
       in-time = omega arith;
-      behind = λ some. ap waiting (waits .enum-told2 .given .1);
-      still = waits-fewer _ (a .d) m n (omega arith) (still .still-ticks .ensures);
+      after-wait = λ some. ap waiting (waits .enum-told2 .given .1);
+      still = still-fewer _ (a .d) m n (omega arith) (still .still-ticks .ensures);
     }
 
 pub after-waits-spec : {M : Type 1} → statement M
