@@ -1,3 +1,5 @@
+pub mod Rows
+pub mod Ranking
 pub mod Searches
 pub mod Asked
-pub mod Turned
+pub mod NoSecond

@@ -1,28 +1,19 @@
--- What a plan asks for, by its number, and the row of draws that it looks along.
-use Prim.Native.Nat.{ℕ, zero, suc, _-_, _≤_}
+-- What a plan asks for, by its number, and how the rules' job and state are seen from what the code is lent.
+use Prim.Native.Nat.{ℕ, zero, suc, _≤_}
 use mathlib.Core.Path.{_≡_}
-use mathlib.Core.Bool.{cond}
-use mathlib.Core.List.{List, reverse}
-use lib.ListN.{length}
-use lib.Dec.{ltb}
+use mathlib.Core.List.{List}
+use lib.ListN.{drop, getD, length}
 use Rattle.rules.specs.declared.MaybeLoad.{MaybeLoad}
 use Rattle.rules.specs.declared.MaybeLoad.the-variants.{NoLoad}
 use Rattle.rules.specs.declared.Loading.the-variants.{Idle}
-use Rattle.rules.specs.Job.{Job, most-slots, most-draws}
-use Rattle.rules.specs.Display.{State}
-use Rattle.rules.specs.Plans.{aggressive, opt, lru, earliestAt, behind}
+use Rattle.rules.specs.Job.{Job}
+use Rattle.rules.specs.Display.{State, awaited}
+use Rattle.rules.specs.Plans.{furthest, on-demand, aggressive, opt, lru, earliestAt}
+use Rattle.display.specs.declared.state.Display.{Display}
+use Rattle.display.specs.View.{History, view}
 use Rattle.choice.specs.declared.ask.Order.{Order}
 use Rattle.choice.specs.declared.ask.Order.the-variants.{Due, Nothing}
-
--- Slots and a row within the limits of a job.
-pub record Searched (slots row : List ℕ) : Type 0 where
-  pub some-slot : 1 ≤ length slots
-  pub few-slots : length slots ≤ most-slots
-  pub few-draws : length row ≤ most-draws
-
--- No load is under way, and the slots hold this.
-abbrev pub quiet : State → List ℕ → Type 0
-quiet s slots = (s .loading ≡ Idle) × (s .slots ≡ slots)
+use Rattle.choice.specs.Ranks.{WithinLimits}
 
 -- What conservative asks for, told from the next load of opt.
 abbrev pub orderAsks : Order → State → MaybeLoad
@@ -30,20 +21,54 @@ orderAsks (Due miss q x) s = earliestAt miss q x s
 orderAsks Nothing s = NoLoad
 
 abbrev pub asksBy : ℕ → Job → Order → State → MaybeLoad
-asksBy zero job order s = aggressive .asks s
+asksBy zero job order s = aggressive job .asks s
 asksBy (suc zero) job order s = orderAsks order s
-asksBy (suc (suc zero)) job order s = opt .asks s
+asksBy (suc (suc zero)) job order s = opt job .asks s
 asksBy (suc (suc (suc n))) job order s = lru job .asks s
 
--- Lru looks back along the draws, so it has them in a row the other way round. From this place on the row is what a plan looks along.
-abbrev pub rowOf : ℕ → List ℕ → List ℕ
-rowOf plan draws = cond (ltb plan 3) draws (reverse draws)
+-- Slots and a row within the limits of a job, and a draw number no greater than the number of draws.
+pub record CanAsk (slots row : List ℕ) (next : ℕ) : Type 0 where
+  pub limits : WithinLimits slots row
+  pub within : next ≤ length row
 
-abbrev pub lookFrom : ℕ → ℕ → ℕ → ℕ
-lookFrom plan n next = cond (ltb plan 3) next (n - next)
+-- The same for a display, with the symbol of its next draw.
+pub record MayAsk (slots row : List ℕ) (d : Display) (symbol : ℕ) : Type 0 where
+  pub can : CanAsk slots row (d .next)
+  pub awaits : getD (drop (d .next) row) 0 0 ≡ symbol
 
-abbrev pub along : ℕ → Job → State → List ℕ
-along plan job s = cond (ltb plan 3) (s .rest) (behind job s)
+-- No load is under way, and the slots of the job hold this.
+pub record Quiet (job : Job) (s : State) (slots : List ℕ) : Type 0 where
+  pub idle : s .loading ≡ Idle
+  pub held : s .slots ≡ slots
+  pub many : job .slots ≡ length slots
 
-abbrev pub drawAt : ℕ → ℕ → ℕ → ℕ
-drawAt plan n place = cond (ltb plan 3) place (n - 1 - place)
+-- The same, with the draws of the job in a row, the next draw number and the awaited symbol.
+pub record Seen (job : Job) (s : State) (slots row : List ℕ) (at symbol : ℕ) : Type 0 where
+  pub quiet : Quiet job s slots
+  pub draws : job .draws ≡ row
+  pub next : s .next ≡ at
+  pub rest : s .rest ≡ drop at row
+  pub awaits : awaited s ≡ symbol
+
+-- These slots and this row belong to the job, with h beside the display, and the awaited symbol is this.
+pub record Lent (job : Job) (h : History) (slots row : List ℕ) (d : Display) (symbol : ℕ) : Type 0 where
+  pub many : job .slots ≡ length slots
+  pub draws : job .draws ≡ row
+  pub rest : h .rest ≡ drop (d .next) (job .draws)
+  pub awaits : awaited (view slots h d) ≡ symbol
+
+-- What is asked for in this tick, by the plan's number, for every job and history that these slots and this row belong to.
+abbrev pub Asked : ℕ → List ℕ → List ℕ → Display → ℕ → Order → MaybeLoad → Type 0
+Asked plan slots row d symbol order r =
+    (h : History) (job : Job) → Lent job h slots row d symbol → r ≡ asksBy plan job order (view slots h d)
+
+-- A load of opt, as early as conservative begins it, with no load under way.
+abbrev pub Earliest : List ℕ → List ℕ → ℕ → ℕ → ℕ → ℕ → MaybeLoad → Type 0
+Earliest slots rest next miss q x r =
+    (job : Job) (s : State) → Quiet job s slots → s .rest ≡ rest → s .next ≡ next → r ≡ earliestAt miss q x s
+
+-- A load on demand with no load under way, into the furthest slot along this row.
+abbrev pub OnDemand : List ℕ → List ℕ → ℕ → MaybeLoad → Type 0
+OnDemand slots row symbol r =
+    (job : Job) (s : State) (slot : State → ℕ)
+    → Quiet job s slots → awaited s ≡ symbol → slot s ≡ furthest job row slots → r ≡ on-demand slot .asks s

@@ -1,19 +1,19 @@
 // What each plan asks for in a tick, once a load that ends in it is in its slot.
-use crate::search::FREE;
-use crate::search::furthest;
+use crate::ranks::first_greatest;
+use crate::ranks::furthest;
+use crate::ranks::ranks_of;
 use crate::search::missing;
+use crate::search::next_draw;
 use display::Display;
-use display::find;
+use display::slot_of;
 use rules::MaybeLoad;
 ghost use mathlib.Core.Path.{_≡_};
-ghost use mathlib.Core.List.{List};
-ghost use Prim.Native.Nat.{ℕ, _≤_, _<_};
-ghost use lib.ListN.{length, getD, drop};
+ghost use lib.ListN.{getD};
 ghost use Rattle.rules.specs.Job.{Job};
-ghost use Rattle.rules.specs.Display.{State, awaited};
-ghost use Rattle.rules.specs.Plans.{aggressive, on-demand, furthest, earliestAt};
-ghost use Rattle.display.specs.View.{History, view};
-ghost use Rattle.choice.specs.Asks.{Searched, quiet, asksBy, along, rowOf, lookFrom};
+ghost use Rattle.rules.specs.Display.{State};
+ghost use Rattle.rules.specs.Plans.{aggressive};
+ghost use Rattle.choice.specs.Ranks.{WithinLimits, facing};
+ghost use Rattle.choice.specs.Asks.{CanAsk, MayAsk, Quiet, Seen, asksBy, OnDemand, Earliest, Asked};
 
 // The load of opt that conservative has yet to begin: the draw that missed, the slot and the symbol.
 pub enum Order {
@@ -21,21 +21,21 @@ pub enum Order {
     Nothing,
 }
 
-// Plan 0: the first missing draw's symbol into the furthest slot, unless what that slot holds is drawn before.
+// Plan 0: the first missing draw's symbol into the furthest slot, unless what that slot holds is drawn before. Its rank says so: it is one
+// more than the place of that draw.
 fn ask_aggressive(slots: &[u16], rest: &[u16]) -> MaybeLoad
-    requires { ⌜ Searched (now slots) (now rest) ⌝ }
-    ensures { λ r. ⌜ ((s : State) → quiet s (now (slots .entry)) → s .rest ≡ now (rest .entry) → r ≡ aggressive .asks s) ⌝ }
+    requires { ⌜ WithinLimits (now slots) (now rest) ⌝ }
+    ensures { λ r. ⌜ ((job : Job) (s : State) → Quiet job s (now (slots .entry)) → s .rest ≡ now (rest .entry) → r ≡ aggressive job .asks s) ⌝ }
 {
     let place = missing(slots, rest);
     if place == rest.len() {
         return MaybeLoad::NoLoad;
     }
-    let slot = furthest(slots, rest);
-    let content = slots[slot as usize];
-    if content != FREE {
-        if find(rest, content) < place {
-            return MaybeLoad::NoLoad;
-        }
+    let ranks = ranks_of(slots, rest);
+    let count = slots.len();
+    let slot = first_greatest(&ranks[..count]);
+    if ranks[slot as usize] as usize <= place {
+        return MaybeLoad::NoLoad;
     }
     MaybeLoad::Load {
         slot,
@@ -43,16 +43,16 @@ fn ask_aggressive(slots: &[u16], rest: &[u16]) -> MaybeLoad
     }
 }
 
-// Plans 2 and 3: the awaited symbol where no slot holds it, into the furthest slot along a row.
-fn ask_on_demand(slots: &[u16], row: &[u16], symbol: u16) -> MaybeLoad
-    requires { ⌜ Searched (now slots) (now row) ⌝ }
-    ensures { λ r. ⌜ ((s : State) (slot : State → ℕ) → quiet s (now (slots .entry)) → awaited s ≡ symbol → slot s ≡ furthest (now (row .entry)) (now (slots .entry)) → r ≡ on-demand slot .asks s) ⌝ }
+// Plans 2 and 3: the awaited symbol where no slot holds it, into the furthest slot along a row, or back along it.
+fn ask_on_demand(slots: &[u16], row: &[u16], back: bool, symbol: u16) -> MaybeLoad
+    requires { ⌜ WithinLimits (now slots) (now row) ⌝ }
+    ensures { λ r. ⌜ OnDemand (now (slots .entry)) (facing back (now (row .entry))) symbol r ⌝ }
 {
-    if find(slots, symbol) < slots.len() {
+    if slot_of(slots, symbol) < slots.len() {
         return MaybeLoad::NoLoad;
     }
     MaybeLoad::Load {
-        slot: furthest(slots, row),
+        slot: furthest(slots, row, back),
         symbol,
     }
 }
@@ -74,23 +74,24 @@ fn ask_earliest(
     slot: u8,
     symbol: u16,
 ) -> MaybeLoad
-    requires { ⌜ Searched (now slots) (now rest) ⌝ }
-    ensures { λ r. ⌜ ((s : State) → quiet s (now (slots .entry)) → s .rest ≡ now (rest .entry) → s .next ≡ next → r ≡ earliestAt miss slot symbol s) ⌝ }
+    requires { ⌜ WithinLimits (now slots) (now rest) ⌝ }
+    ensures { λ r. ⌜ Earliest (now (slots .entry)) (now (rest .entry)) next miss slot symbol r ⌝ }
 {
-    let outgoing = find(rest, content_of(slots, slot));
+    let outgoing = next_draw(rest, content_of(slots, slot));
     if next as usize + outgoing < miss as usize {
         return MaybeLoad::NoLoad;
     }
     MaybeLoad::Load { slot, symbol }
 }
 
-// What the plan asks for with no load under way, when this is what remains of the row that it looks along.
+// What the plan asks for with no load under way: lru looks back along the draws made, each other plan along the draws that remain.
 fn choose(plan: u32, slots: &[u16], row: &[u16], next: u16, symbol: u16, order: Order) -> MaybeLoad
-    requires { ⌜ Searched (now slots) (now row) ⌝ }
-    ensures { λ r. ⌜ ((s : State) (job : Job) → quiet s (now (slots .entry)) → awaited s ≡ symbol → s .next ≡ next → along plan job s ≡ now (row .entry) → r ≡ asksBy plan job order s) ⌝ }
+    requires { ⌜ CanAsk (now slots) (now row) next ⌝ }
+    ensures { λ r. ⌜ ((job : Job) (s : State) → Seen job s (now (slots .entry)) (now (row .entry)) next symbol → r ≡ asksBy plan job order s) ⌝ }
 {
+    let at = next as usize;
     if plan == 0 {
-        return ask_aggressive(slots, row);
+        return ask_aggressive(slots, &row[at..]);
     }
     if plan == 1 {
         let Order::Due {
@@ -101,24 +102,15 @@ fn choose(plan: u32, slots: &[u16], row: &[u16], next: u16, symbol: u16, order: 
         else {
             return MaybeLoad::NoLoad;
         };
-        return ask_earliest(slots, row, next, miss, slot, ordered);
+        return ask_earliest(slots, &row[at..], next, miss, slot, ordered);
     }
-    ask_on_demand(slots, row, symbol)
+    if plan == 2 {
+        return ask_on_demand(slots, &row[at..], false, symbol);
+    }
+    ask_on_demand(slots, &row[..at], true, symbol)
 }
 
-// Where a plan's row begins to be of use: opt and the like look from the next draw on, lru back from the last draw made.
-fn look_from(plan: u32, draws: usize, next: u16) -> usize
-    requires { ⌜ next ≤ draws ⌝ }
-    ensures { λ r. ⌜ (r ≡ lookFrom plan draws next) × (r ≤ draws) ⌝ }
-{
-    if plan < 3 {
-        next as usize
-    } else {
-        draws - next as usize
-    }
-}
-
-// What the plan asks for in this tick. Where a load is under way nothing is looked for.
+// What the plan asks for in this tick, with the draws in their row. Where a load is under way nothing is looked for.
 pub fn asked_of(
     plan: u32,
     slots: &[u16],
@@ -127,13 +119,11 @@ pub fn asked_of(
     symbol: u16,
     order: Order,
 ) -> MaybeLoad
-    requires { ⌜ Searched (now slots) (now row) × (d .next ≤ length (now row)) ⌝ }
-    ensures { λ r. ⌜ ((h : History) (job : Job) → rowOf plan (job .draws) ≡ now (row .entry) → h .rest ≡ drop (d .next) (job .draws) → awaited (view (now (slots .entry)) h d) ≡ symbol → r ≡ asksBy plan job order (view (now (slots .entry)) h d)) ⌝ }
+    requires { ⌜ MayAsk (now slots) (now row) d symbol ⌝ }
+    ensures { λ r. ⌜ Asked plan (now (slots .entry)) (now (row .entry)) d symbol order r ⌝ }
 {
     if d.remaining != 0 {
         return MaybeLoad::NoLoad;
     }
-    let next = d.next;
-    let from = look_from(plan, row.len(), next);
-    choose(plan, slots, &row[from..], next, symbol, order)
+    choose(plan, slots, row, d.next, symbol, order)
 }

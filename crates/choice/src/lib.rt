@@ -1,5 +1,6 @@
-// What each plan asks for in a tick: the searches over slots and draws, the row of draws that a plan looks along, and the choice.
+// What each plan asks for in a tick: the row of draws, the searches along it, the ranks of the slots, and the choice.
 mod ask;
+mod ranks;
 mod row;
 mod search;
 

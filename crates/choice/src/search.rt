@@ -1,53 +1,44 @@
-// The two searches of the plans: the slot whose content comes up furthest along a row of draws, and the first draw that no slot serves.
-use display::find;
-ghost use mathlib.Core.Path.{_≡_};
-ghost use Prim.Native.Nat.{_≤_, _<_};
-ghost use lib.ListN.{length};
-ghost use Rattle.rules.specs.Plans.{furthest, missing};
+// The searches of the plans along a row of draws: a symbol's next draw, its last draw, and the first draw that no slot serves.
+use display::slot_of;
+ghost use mathlib.Core.List.{reverse};
+ghost use Rattle.display.specs.Search.{Found};
+ghost use Rattle.choice.specs.Rows.{Missed};
 
-// What a slot holds that holds no symbol.
-pub const FREE: u16 = 65535;
-
-// The first slot of the greatest rank: a free slot ranks above all, a symbol that does not come up above all that do, and any other by
-// the place at which it first comes up, where the search for it is left.
-pub fn furthest(slots: &[u16], row: &[u16]) -> u8
-    requires { ⌜ (1 ≤ length (now slots)) × (length (now slots) ≤ 64) × (length (now row) ≤ 4096) ⌝ }
-    ensures { λ r. ⌜ (r ≡ furthest (now (row .entry)) (now (slots .entry))) × (r < length (now (slots .entry))) ⌝ }
+// The first of the draws that remain that draws the symbol, or the number of them where none does.
+pub fn next_draw(rest: &[u16], symbol: u16) -> usize
+    ensures { λ r. ⌜ Found symbol (now (rest .entry)) r ⌝ }
 {
-    let mut best: u8 = 0;
-    let mut far: usize = 0;
-    let mut slot: u8 = 0;
-    while (slot as usize) < slots.len() {
-        let symbol = slots[slot as usize];
-        let mut at: usize = 0;
-        let rank = loop {
-            if symbol == FREE {
-                break row.len() + 1;
-            }
-            if row.len() <= at {
-                break at;
-            }
-            if row[at] == symbol {
-                break at;
-            }
-            at += 1;
-        };
-        if far < rank {
-            far = rank;
-            best = slot;
+    let mut at = 0;
+    while at < rest.len() {
+        if rest[at] == symbol {
+            return at;
         }
-        slot += 1;
+        at += 1;
     }
-    best
+    at
+}
+
+// How many draws ago the symbol was last drawn, 0 for the latest draw made, or the number of draws made where it was not drawn.
+pub fn last_draw(made: &[u16], symbol: u16) -> usize
+    ensures { λ r. ⌜ Found symbol (reverse (now (made .entry))) r ⌝ }
+{
+    let mut ago = 0;
+    while ago < made.len() {
+        if made[made.len() - 1 - ago] == symbol {
+            return ago;
+        }
+        ago += 1;
+    }
+    ago
 }
 
 // The first of the draws that remain whose symbol is in no slot, or the number of them.
 pub fn missing(slots: &[u16], rest: &[u16]) -> usize
-    ensures { λ r. ⌜ (r ≡ missing (now (slots .entry)) (now (rest .entry))) × (r ≤ length (now (rest .entry))) ⌝ }
+    ensures { λ r. ⌜ Missed (now (slots .entry)) (now (rest .entry)) r ⌝ }
 {
     let mut at = 0;
     while at < rest.len() {
-        if find(slots, rest[at]) == slots.len() {
+        if slot_of(slots, rest[at]) == slots.len() {
             return at;
         }
         at += 1;

@@ -1,4 +1,5 @@
-pub mod Orders
+pub mod LoadRow
 pub mod Walks
 pub mod Writes
 pub mod Planning
+pub mod NoSecond

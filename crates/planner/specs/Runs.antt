@@ -1,4 +1,4 @@
--- What the waits behind a plan's tick keep to, and what its whole run asks for and ensures.
+-- What a tick of a plan, the waits after it and a whole run ask for and ensure, and what comes of a plan.
 use Prim.Native.Nat.{ℕ, _+_, _*_, _-_, _≤_, _<_}
 use mathlib.Core.Path.{_≡_}
 use mathlib.Core.Bool.{cond}
@@ -7,62 +7,78 @@ use lib.ListN.{length}
 use Rattle.rules.specs.declared.Answer.{Answer}
 use Rattle.rules.specs.declared.JobReading.the-variants.{Taken}
 use Rattle.rules.specs.declared.Shape.{Shape}
-use Rattle.rules.specs.Job.{shapeOf, startingOf, drawsOf, jobOf, most-slots, most-draws}
-use Rattle.rules.specs.LoadList.{head-size, event-size}
+use Rattle.rules.specs.Job.{Call, startingSymbols, drawsOf, jobOf, most-draws}
+use Rattle.rules.specs.LoadList.{head-size, event-size, last-tick}
 use Rattle.rules.specs.Display.{Run, going, refused}
 use Rattle.rules.specs.Plans.{opt, runPlan, begunIn, ruleOf}
 use Rattle.rules.specs.Refusals.{readJob, inTime, answerOf, writtenBy, lent}
+use Rattle.laws.specs.Limits.{Limits}
+use Rattle.display.specs.Tick.{Room}
 use Rattle.display.specs.View.{History, view}
 use Rattle.display.specs.declared.state.Display.{Display}
 use Rattle.planner.specs.declared.run.Ran.{Ran}
-use Rattle.choice.specs.Asks.{rowOf}
-use Rattle.planner.specs.Loads.{EqualRows, Lists, Noted}
+use Rattle.planner.specs.Loads.{firstLoads}
 
--- A job of this shape, within its limits.
-pub record Limits (job : List ℕ) (shape : Shape) : Type 0 where
-  pub shaped : shape ≡ shapeOf job
-  pub some-slot : 1 ≤ shape .slots
-  pub few-slots : shape .slots ≤ most-slots
-  pub some-time : 1 ≤ shape .time
-  pub few-draws : shape .draws ≤ most-draws
+-- What a tick of a plan starts from: the row of the draws, as many slots as the job has, counts that can go up by one, and a draw that
+-- remains.
+pub record BeforeTick (asked : Call) (shape : Shape) (row held : List ℕ) (d : Display) : Type 0 where
+  pub limits : Limits asked shape
+  pub draws : drawsOf asked ≡ row
+  pub size : length held ≡ shape .slots
+  pub room : Room d
+  pub few-loads : d .loads < 4294967295
+  pub remains : d .next < shape .draws
 
--- A load is under way in each of so many ticks from this display on.
-pub record Waits (d : Display) (m : ℕ) : Type 0 where
+-- What the waits after a tick start from: a tick that a list can name, and no more waits than ticks.
+pub record AfterTick (d : Display) : Type 0 where
+  pub in-time : d .tick ≤ last-tick
+  pub few-waits : d .waits ≤ d .tick
+
+-- A load is under way in each of the next m ticks.
+pub record LoadUnderWay (d : Display) (m : ℕ) : Type 0 where
   pub before-end : d .remaining - m ≡ 0 → d .remaining ≡ 0
   pub under-way : 0 < m → 0 < d .remaining
 
--- The loads that a plan works off: for conservative those of opt.
-pub record Given (plan : ℕ) (job misses targets arrivals : List ℕ) : Type 0 where
-  pub even : EqualRows misses targets arrivals
-  pub orders : plan ≡ 1 → Lists (begunIn (runPlan (jobOf job) opt)) misses targets arrivals
+-- A job that was taken with this shape, and a row of as many places as a job has draws at most.
+pub record HasPlaces (asked : Call) (shape : Shape) (loads : List ℕ) : Type 0 where
+  pub taken : readJob (asked .job) ≡ Taken shape
+  pub places : length loads ≡ most-draws
 
--- What a run starts from: a job of this shape, the plan's row, the starting symbols in the slots, and the loads that it works off.
-pub record Ready (plan : ℕ) (job : List ℕ) (shape : Shape) (row held misses targets arrivals : List ℕ) : Type 0 where
-  pub limits : Limits job shape
-  pub turned : rowOf plan (drawsOf job) ≡ row
-  pub starts : held ≡ startingOf job
-  pub given : Given plan job misses targets arrivals
+-- What the run of a plan comes to: its last state, or refusal 15 where that is not reached in time.
+abbrev pub runOf : Call → ℕ → Run
+runOf asked plan = inTime (runPlan (jobOf asked) (ruleOf (jobOf asked) plan))
 
--- A run shown by what came of it: over, with the display at the end, its slots and what stands beside it, or refused with 15. Its loads
--- are noted as long as there is a place for each.
-pub record Shown (run : Run) (r : Ran) (ticks draws slots symbols : List ℕ) : Type 0 where
+-- The loads that a plan works off are the first of a row: for conservative those of opt.
+pub record Orders (plan : ℕ) (asked : Call) (orders : ℕ) (loads : List ℕ) : Type 0 where
+  pub few : orders ≤ length loads
+  pub of-opt : plan ≡ 1 → firstLoads orders loads ≡ begunIn (runPlan (jobOf asked) (opt (jobOf asked)))
+
+-- A job that was taken, the row of its draws, and the loads that the plan works off.
+pub record Prepared (plan : ℕ) (asked : Call) (shape : Shape) (row : List ℕ) (orders : ℕ) (loads : List ℕ) : Type 0 where
+  pub has-places : HasPlaces asked shape loads
+  pub draws : drawsOf asked ≡ row
+  pub ordered : Orders plan asked orders loads
+
+-- What a run starts from: the same, with the starting symbols in the slots.
+pub record FromStart (plan : ℕ) (asked : Call) (shape : Shape) (row held : List ℕ) (orders : ℕ) (loads : List ℕ) : Type 0 where
+  pub prepared : Prepared plan asked shape row orders loads
+  pub starts : held ≡ startingSymbols (asked .job)
+
+-- What came of the run of a plan: it is over, with this display, these slots and this history, or refused with 15. The loads that it
+-- began, at most one to a draw, are the first of the row.
+pub record Ended (plan : ℕ) (asked : Call) (r : Ran) (loads : List ℕ) : Type 0 where
   pub held : List ℕ
-  pub beside : History
-  pub ends : inTime run ≡ cond (r .over) (going (view held beside (r .display))) (refused 15 0)
-  pub noted : r .display .loads ≤ most-draws → Noted (beside .begun) (r .display .loads) ticks draws slots symbols
+  pub history : History
+  pub ends : runOf asked plan ≡ cond (r .over) (going (view held history (r .display))) (refused 15 0)
+  pub noted : history .begun ≡ firstLoads (r .display .loads) loads
+  pub few : r .display .loads ≤ length (drawsOf asked)
 
--- The run of a plan of a job, shown, with a place for each of its loads.
-pub record Planned (plan : ℕ) (job : List ℕ) (r : Ran) (ticks draws slots symbols : List ℕ) : Type 0 where
-  pub shown : Shown (runPlan (jobOf job) (ruleOf (jobOf job) plan)) r ticks draws slots symbols
-  pub few : r .display .loads ≤ length (drawsOf job)
-  pub few-draws : length (drawsOf job) ≤ most-draws
+-- A job that was taken with this shape, and room for a list of as many events as draws.
+pub record HasRoom (asked : Call) (shape : Shape) (room : List ℕ) : Type 0 where
+  pub taken : readJob (asked .job) ≡ Taken shape
+  pub enough : head-size + event-size * shape .draws ≤ length room
 
--- A job that was taken with this shape, and room for a head and an event to each of its draws.
-pub record HasRoom (job : List ℕ) (shape : Shape) (room : List ℕ) : Type 0 where
-  pub taken : readJob job ≡ Taken shape
-  pub enough : head-size + event-size * length (drawsOf job) ≤ length room
-
--- The answer to a run and what the lent room holds later.
-pub record CarriedOut (run : Run) (answer : Answer) (room room′ : List ℕ) : Type 0 where
-  pub answers : answer ≡ answerOf run
-  pub writes : room′ ≡ lent (writtenBy run) room
+-- The answer to the run of a plan, and what the lent room holds then.
+pub record CarriedOut (asked : Call) (plan : ℕ) (answer : Answer) (room room′ : List ℕ) : Type 0 where
+  pub answers : answer ≡ answerOf (runOf asked plan)
+  pub writes : room′ ≡ lent (writtenBy (runOf asked plan)) room

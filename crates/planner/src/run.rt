@@ -15,18 +15,15 @@ use display::refused_load;
 use display::smaller;
 use display::start;
 use rules::Happening;
+use rules::LAST_TICK;
 use rules::Shape;
-ghost use mathlib.Core.Path.{_≡_};
-ghost use Prim.Native.Nat.{_≤_, _<_};
-ghost use lib.ListN.{length};
-ghost use Rattle.rules.specs.Job.{jobOf, drawsOf};
+ghost use Rattle.rules.specs.Job.{call, jobOf};
 ghost use Rattle.rules.specs.LoadList.{last-tick};
-ghost use Rattle.rules.specs.Plans.{asking, runPlan, ruleOf};
-ghost use Rattle.display.specs.Tick.{Room, Ticks};
+ghost use Rattle.rules.specs.Plans.{asking};
+ghost use Rattle.display.specs.Tick.{Ticks};
 ghost use Rattle.display.specs.Still.{Rested};
-ghost use Rattle.choice.specs.Asks.{asksBy, rowOf};
-ghost use Rattle.planner.specs.Loads.{Whole};
-ghost use Rattle.planner.specs.Runs.{Limits, Waits, Ready, Shown};
+ghost use Rattle.choice.specs.Asks.{asksBy};
+ghost use Rattle.planner.specs.Runs.{BeforeTick, AfterTick, LoadUnderWay, FromStart, Ended};
 
 // One tick of a plan, while draws remain: land, begin what the plan asks for, then draw or wait.
 fn plan_tick(
@@ -38,8 +35,8 @@ fn plan_tick(
     d: Display,
     order: Order,
 ) -> Ticked
-    requires { ⌜ Limits (now job) shape × (rowOf plan (drawsOf (now job)) ≡ now row) × (length (now held) ≡ shape .slots) × Room d × (d .loads < 4294967295) × (d .next < shape .draws) ⌝ }
-    ensures { λ r. ⌜ Ticks (jobOf (now (job .entry))) (asking (asksBy plan (jobOf (now (job .entry))) order)) (now (held .entry)) (now (held .exit)) d r ⌝ }
+    requires { ⌜ BeforeTick (call (now job)) shape (now row) (now held) d ⌝ }
+    ensures { λ r. ⌜ Ticks (jobOf (call (now (job .entry)))) (asking (asksBy plan (jobOf (call (now (job .entry)))) order)) (now (held .entry)) (now (held .exit)) d r ⌝ }
 {
     let landed = land(held, d);
     let symbol = sheet::draw_symbol(job, shape.slots, landed.next);
@@ -48,19 +45,19 @@ fn plan_tick(
     if number != 0 {
         return refused_load(landed, number);
     }
-    let begun = begin(held, landed, shape.time, asked);
+    let begun = begin(held, landed, shape.load_time, asked);
     draw_or_wait(held, begun, asked, symbol, true)
 }
 
-// The display behind the waits that follow a tick in which this happened: while a load is under way no plan asks for anything, so all
-// ticks up to its end are passed over at once.
+// The display after the waits that follow a tick in which this happened. While a load is under way no plan asks for anything, so all
+// ticks up to the end of the load are passed over at once.
 fn after_waits(d: Display, happening: Happening) -> Display
-    requires { ⌜ (d .tick ≤ last-tick) × (d .waits ≤ d .tick) ⌝ }
-    ensures { λ r. ⌜ Rested (Waits d) last-tick happening d r ⌝ }
+    requires { ⌜ AfterTick d ⌝ }
+    ensures { λ r. ⌜ Rested (LoadUnderWay d) last-tick happening d r ⌝ }
 {
     match happening {
         Happening::Draw { slot: _ } => d,
-        Happening::Wait(_) => pass_waits(d, smaller(8388607 - d.tick, before_end(d))),
+        Happening::Wait(_) => pass_waits(d, smaller(LAST_TICK - d.tick, before_end(d))),
     }
 }
 
@@ -70,24 +67,20 @@ pub struct Ran {
     pub display: Display,
 }
 
-// The run of a plan from the slots as they start to its last draw, or to the last tick that a list can name. For conservative `misses`,
-// `into` and `what` are the loads of opt. The loads that it begins are noted in the last four rows.
+// The run of a plan from the starting symbols in the slots to its last draw, or to the last tick that a list can name. The loads that
+// it begins are noted in `loads`. For conservative the first `orders` loads of that row are those of opt: each is read before
+// the load of the same number takes its place.
 pub fn run_plan(
     plan: u32,
     job: &[u8],
     shape: Shape,
     row: &[u16],
     held: &mut [u16],
-    misses: &[u16],
-    targets: &[u8],
-    arrivals: &[u16],
-    ticks: &mut [u32],
-    draws: &mut [u16],
-    slots: &mut [u8],
-    symbols: &mut [u16],
+    orders: u32,
+    loads: &mut [u64],
 ) -> Ran
-    requires { ⌜ Ready plan (now job) shape (now row) (now held) (now misses) (now targets) (now arrivals) × Whole (now ticks) (now draws) (now slots) (now symbols) ⌝ }
-    ensures { λ r. ⌜ Shown (runPlan (jobOf (now (job .entry))) (ruleOf (jobOf (now (job .entry))) plan)) r (now (ticks .exit)) (now (draws .exit)) (now (slots .exit)) (now (symbols .exit)) ⌝ }
+    requires { ⌜ FromStart plan (call (now job)) shape (now row) (now held) orders (now loads) ⌝ }
+    ensures { λ r. ⌜ Ended plan (call (now (job .entry))) r (now (loads .exit)) ⌝ }
 {
     let mut d = start();
     loop {
@@ -97,10 +90,10 @@ pub fn run_plan(
         if shape.draws <= next {
             break;
         }
-        if 8388607 <= tick {
+        if LAST_TICK <= tick {
             break;
         }
-        let order = order_at(at, misses, targets, arrivals);
+        let order = order_at(loads, orders, at);
         let ticked = plan_tick(plan, job, shape, row, held, d, order);
         if ticked.number != 0 {
             break;
@@ -108,7 +101,7 @@ pub fn run_plan(
         let on_record = ticked.on_record;
         let begun = on_record.begun;
         let happening = on_record.happening;
-        note(ticks, draws, slots, symbols, at, tick, next, begun);
+        note(loads, at, tick, next, begun);
         let later = ticked.display;
         d = after_waits(later, happening);
     }

@@ -1,4 +1,4 @@
--- A read past the end gives 0.
+-- `content_of` meets its contract: a read past the end gives 0.
 use Prim.Native.Nat.{_≤_}
 use mathlib.Core.Path.{sym}
 use lib.ListN.{length, List·getD-eq-default}

@@ -1,27 +1,23 @@
--- The places copied so far are those of the row of the job's draws.
+-- `row_of` meets its contract: draw by draw the row is filled from the front.
 use Prim.Native.Nat.{ℕ, _-_, _≤_}
 use native.Mathlib.Omega.{arith}
-use mathlib.Core.Path.{_∙_, _≡_, refl}
-use lib.ListN.{length-set, length-replicate, length, take, drop}
+use mathlib.Core.Path.{_≡_, ap, _∙_}
 use borrow.Author.Needs.{needs}
-use Rattle.rules.specs.Job.{symbols, draws-at}
-use Rattle.choice.specs.Asks.{rowOf}
-use Rattle.choice.proofs.Turned.{copied-more, copied-all}
+use Rattle.choice.specs.Rows.{rowOf}
+use Rattle.choice.proofs.Rows.{row-none, row-more}
 use Rattle.choice.proofs.row.row_of.Statement.{statement}
 use Rattle.choice.proofs.row.row_of.Tie as tie
 
 abbrev Inv-loop : tie.InvT-loop
-Inv-loop plan job slots draws row₀ place₀ row place =
-    (place ≤ draws) × (length row ≡ 4096) × (take place row ≡ take place (rowOf plan (symbols draws (drop (draws-at slots) job))))
+Inv-loop job slots draws row₀ place₀ row place = (place ≤ draws) × (row ≡ rowOf slots place job)
 
 abbrev μ-loop : tie.MeasureT-loop
-μ-loop plan job slots draws row₀ place₀ row place = draws - place
+μ-loop job slots draws row₀ place₀ row place = draws - place
 
 loop-holds : tie.Need-loop-holds Inv-loop μ-loop
-loop-holds c = (omega arith, length-replicate {A = ℕ} 4096 0, refl)
-
-draw-at-requires : tie.Need-draw-at-requires Inv-loop μ-loop
-draw-at-requires c κs = search needs
+loop-holds c =
+    let s : tie.Start Inv-loop μ-loop = search in
+    (omega arith, row-none (s .args .slots) (s .args .job .now))
 
 draw-symbol-requires : tie.Need-draw-symbol-requires Inv-loop μ-loop
 draw-symbol-requires c κs = search needs
@@ -46,14 +42,10 @@ loop-again c =
     let after : tie.After-draw-symbol Inv-loop μ-loop = search in
     let s : tie.Start Inv-loop μ-loop = search in
     let p : tie.At-loop Inv-loop μ-loop = search in
-    let d : tie.After-draw-at Inv-loop μ-loop = search in
     let a = s .args in
-    let l = p .loop in (
-      omega arith,
-      length-set (l .row) (l .place) (after .draw-symbol .result) ∙ l .inv .1,
-      copied-more (a .plan) (a .job .now) (a .slots) (a .draws) (l .row) (l .place) (d .draw-at .result) (after .draw-symbol .result)
-          (omega arith) (search) (d .draw-at .ensures) (after .draw-symbol .ensures) (l .inv .2),
-    )
+    let l = p .loop in
+    let before : l .row ≡ rowOf (a .slots) (l .place) (a .job .now) = search in
+    (omega arith, row-more (a .slots) (l .place) (a .job .now) (l .row) (after .draw-symbol .result) (omega arith) before (after .draw-symbol .ensures))
 
 returns : tie.Need-returns Inv-loop μ-loop
 returns c =
@@ -61,8 +53,9 @@ returns c =
     let p : tie.At-loop Inv-loop μ-loop = search in
     let a = s .args in
     let l = p .loop in
+    let before : l .row ≡ rowOf (a .slots) (l .place) (a .job .now) = search in
     let whole : l .place ≡ a .draws = omega arith in
-    copied-all (a .plan) (a .job .now) (a .slots) (a .draws) (l .row) (rw whole at (l .inv .2))
+    before ∙ ap (λ (n : ℕ). rowOf (a .slots) n (a .job .now)) whole
 
 pub row-of-spec : {M : Type 1} → statement M
 row-of-spec =
@@ -71,7 +64,6 @@ row-of-spec =
     Inv-loop
     μ-loop
     loop-holds
-    draw-at-requires
     draw-symbol-requires
     cast-row
     mul-row

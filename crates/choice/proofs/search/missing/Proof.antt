@@ -1,4 +1,4 @@
--- Every draw passed is served by a slot, so what is left gives what the whole row gives.
+-- `missing` meets its contract: every draw passed is served by a slot, so what is left gives what the whole row gives.
 use Prim.Native.Nat.{ℕ, suc, _+_, _-_, _<_, _≤_}
 use native.Mathlib.Omega.{arith}
 use mathlib.Core.Bool.{true, false}
@@ -22,17 +22,17 @@ abbrev μ-loop : tie.MeasureT-loop
 loop-holds : tie.Need-loop-holds Inv-loop μ-loop
 loop-holds c = (omega arith, omega arith)
 
-mul-find : tie.Need-mul-find Inv-loop μ-loop
-mul-find c = search needs
+mul-slot-of : tie.Need-mul-slot-of Inv-loop μ-loop
+mul-slot-of c = search needs
 
-shared-slice-read-find : tie.Need-shared-slice-read-find Inv-loop μ-loop
-shared-slice-read-find c = omega arith
+shared-slice-read-slot-of : tie.Need-shared-slice-read-slot-of Inv-loop μ-loop
+shared-slice-read-slot-of c = omega arith
 
-find-requires : tie.Need-find-requires Inv-loop μ-loop
-find-requires c κs = search needs
+slot-of-requires : tie.Need-slot-of-requires Inv-loop μ-loop
+slot-of-requires c κs = search needs
 
 -- A draw's turn: the search for its symbol among the slots.
-module _ (p : tie.After-find Inv-loop μ-loop) where
+module _ (p : tie.After-slot-of Inv-loop μ-loop) where
   abbrev at-loop : tie.At-loop Inv-loop μ-loop
   at-loop = search
 
@@ -53,11 +53,11 @@ module _ (p : tie.After-find Inv-loop μ-loop) where
 
 returns : tie.Need-returns Inv-loop μ-loop
 returns c =
-    let p : tie.After-find Inv-loop μ-loop = search in
+    let p : tie.After-slot-of Inv-loop μ-loop = search in
     let absent : stands (getD (rest p) (at p) 0) (slots p) ≡ false =
-    missed-stands _ (slots p) (p .find .result) (length (slots p)) (p .find .ensures .0) refl (omega arith) in
+    missed-stands _ (slots p) (p .slot-of .result) (length (slots p)) (p .slot-of .ensures .first) refl (omega arith) in
     let stops : missing (slots p) (drop (at p) (rest p)) ≡ 0 = missing-here (slots p) (rest p) (at p) (within p) absent in
-    (omega arith, omega arith)
+    record { first = omega arith; within = omega arith }
 
 add-at : tie.Need-add-at Inv-loop μ-loop
 add-at c = omega arith
@@ -67,9 +67,9 @@ loop-less c = omega arith
 
 loop-again : tie.Need-loop-again Inv-loop μ-loop
 loop-again c =
-    let p : tie.After-find Inv-loop μ-loop = search in
+    let p : tie.After-slot-of Inv-loop μ-loop = search in
     let held : stands (getD (rest p) (at p) 0) (slots p) ≡ true =
-    found-stands _ (slots p) (p .find .result) (length (slots p)) (p .find .ensures .0) refl (omega arith) in
+    found-stands _ (slots p) (p .slot-of .result) (length (slots p)) (p .slot-of .ensures .first) refl (omega arith) in
     let goes : missing (slots p) (drop (at p) (rest p)) ≡ suc (missing (slots p) (drop (at p + 1) (rest p))) =
     missing-further (slots p) (rest p) (at p) (within p) held in
     (omega arith, omega arith)
@@ -81,7 +81,7 @@ returns-2 c =
     let a = s .args in
     let stops : missing (a .slots .now) (drop (p .loop .at) (a .rest .now)) ≡ 0 =
     missing-past (a .slots .now) (a .rest .now) (p .loop .at) search in
-    (omega arith, omega arith)
+    record { first = omega arith; within = omega arith }
 
 pub missing-spec : {M : Type 1} → statement M
 missing-spec =
@@ -90,9 +90,9 @@ missing-spec =
     Inv-loop
     μ-loop
     loop-holds
-    mul-find
-    shared-slice-read-find
-    find-requires
+    mul-slot-of
+    shared-slice-read-slot-of
+    slot-of-requires
     returns
     add-at
     loop-less

@@ -1,19 +1,22 @@
--- `carry_out` meets its contract: a run that is over is written as its loads are noted, and one that is not is refused with 15.
-use Prim.Native.Nat.{ℕ}
+-- A run that is over is written as its loads are noted, and one that is not is refused with 15.
+use Prim.Native.Nat.{ℕ, _≤_}
+use native.Mathlib.Omega.{arith}
 use mathlib.Core.Bool.{true, false}
-use mathlib.Core.Path.{_≡_, sym, ap, _∙_}
-use lib.ListN.{length, replicate, length-replicate}
+use mathlib.Core.Path.{_≡_, _∙_}
+use lib.ListN.{length-replicate}
 use borrow.Author.Needs.{needs}
-use Rattle.rules.specs.Display.{Run, going, refused}
-use Rattle.rules.specs.Job.{jobOf}
-use Rattle.rules.specs.Plans.{ruleOf, runPlan}
-use Rattle.rules.specs.Refusals.{inTime, answerOf, writtenBy, lent}
-use Rattle.planner.proofs.Planning.{ends-over, ends-late, written, fitting}
+use Rattle.rules.specs.Job.{call}
+use Rattle.planner.proofs.Planning.{few-loads, fitting, carried-over, carried-late}
 use Rattle.planner.proofs.answer.carry_out.Statement.{statement}
 use Rattle.planner.proofs.answer.carry_out.Tie as tie
 
-abbrev start : tie.After-run-of → tie.Start
-start p = search
+-- The run has ended.
+module _ (p : tie.After-run-of) where
+  abbrev start : tie.Start
+  start = search
+
+  few : p .run-of .result .display .loads ≤ 4096
+  few = few-loads (call (start .args .job .now)) (start .args .shape) (start .pre .taken) (start .args .plan) (p .run-of .result) _ (p .run-of .ensures)
 
 -- Where the run is over, its display is read.
 module _ (q : tie.After-d) where
@@ -23,52 +26,19 @@ module _ (q : tie.After-d) where
   is-over : run-at .run-of .result .over ≡ true
   is-over = search
 
-slice-aggregate-run-of : tie.Need-slice-aggregate-run-of
-slice-aggregate-run-of c = search needs
-
-slice-aggregate-run-of-2 : tie.Need-slice-aggregate-run-of-2
-slice-aggregate-run-of-2 c = search needs
-
-slice-aggregate-run-of-3 : tie.Need-slice-aggregate-run-of-3
-slice-aggregate-run-of-3 c = search needs
-
-slice-aggregate-run-of-4 : tie.Need-slice-aggregate-run-of-4
-slice-aggregate-run-of-4 c = search needs
-
--- Each of the four rows has a place for the most draws.
-all : length (replicate {A = ℕ} 4096 0) ≡ 4096
-all = length-replicate {A = ℕ} 4096 0
-
-run-of-requires : tie.Need-run-of-requires
-run-of-requires c κs =
-    let a : tie.Start = search in
-    (a .pre .taken, record { ticks-room = all; draws-room = all; slots-room = all; symbols-room = all })
-
 cast-write-list : tie.Need-cast-write-list
-cast-write-list c = search needs
-
-slice-aggregate-write-list : tie.Need-slice-aggregate-write-list
-slice-aggregate-write-list c = search needs
-
-slice-aggregate-write-list-2 : tie.Need-slice-aggregate-write-list-2
-slice-aggregate-write-list-2 c = search needs
-
-slice-aggregate-write-list-3 : tie.Need-slice-aggregate-write-list-3
-slice-aggregate-write-list-3 c = search needs
+cast-write-list c =
+    let q : tie.After-d = search in
+    let most = few (run-at q) in
+    omega arith
 
 write-list-requires : tie.Need-write-list-requires
 write-list-requires c κs =
     let p : tie.After-run-of = search in
     let a : tie.Start = start p in
     let ran = p .run-of in
-    fitting (a .args .job .now) (a .args .shape) (a .pre .taken) (a .args .plan) (ran .result) _ _ _ _ (ran .ensures)
-    (ran .kept .1 .1 .1 .0 ∙ all) (ran .kept .1 .1 .1 .1 .1 .0 ∙ all) (ran .kept .1 .1 .1 .1 .1 .1 .0 ∙ all) (a .args .room .now) (a .pre .enough)
-
-accepted-requires : tie.Need-accepted-requires
-accepted-requires c κs = search needs
-
-same-length : tie.Need-same-length
-same-length c = search needs
+    fitting (call (a .args .job .now)) (a .args .shape) (a .pre .taken) (a .args .plan) (ran .result) _ (ran .ensures)
+    (ran .kept .1 .1 .1 .0 ∙ length-replicate {A = ℕ} 4096 0) (a .args .room .now) (a .pre)
 
 returns : tie.Need-returns
 returns c =
@@ -77,18 +47,8 @@ returns c =
     let q : tie.After-d = search in
     let a : tie.Start = start (run-at q) in
     let ran = run-at q .run-of in
-    let goes : inTime (runPlan (jobOf (a .args .job .now)) (ruleOf (jobOf (a .args .job .now)) (a .args .plan))) ≡ going _ =
-    ends-over (a .args .job .now) (a .args .plan) (ran .result) _ _ _ _ (ran .ensures) (is-over q) in
-    record {
-      answers = accepts .accepted .ensures (ran .ensures .shown .held) (ran .ensures .shown .beside) ∙ ap answerOf (sym goes);
-      writes =
-          w .write-list .ensures (ran .ensures .shown .beside .begun)
-          (written (a .args .job .now) (a .args .shape) (a .pre .taken) (a .args .plan) (ran .result) _ _ _ _ (ran .ensures))
-          ∙ ap (λ (x : Run). lent (writtenBy x) (a .args .room .now)) (sym goes);
-    }
-
-refusal-requires : tie.Need-refusal-requires
-refusal-requires c κs = search needs
+    carried-over (call (a .args .job .now)) (a .args .plan) (ran .result) _ (ran .ensures) (a .args .room .now) _ _ (is-over q)
+    (accepts .accepted .ensures (ran .ensures .held) (ran .ensures .history)) (w .write-list .ensures)
 
 returns-2 : tie.Need-returns-2
 returns-2 c =
@@ -96,29 +56,19 @@ returns-2 c =
     let a : tie.Start = start p in
     let ran = p .run-of in
     let late : ran .result .over ≡ false = search in
-    let halts : inTime (runPlan (jobOf (a .args .job .now)) (ruleOf (jobOf (a .args .job .now)) (a .args .plan))) ≡ refused 15 0 =
-    ends-late (a .args .job .now) (a .args .plan) (ran .result) _ _ _ _ (ran .ensures) late in
-    record {
-      answers = c .refusal .ensures ∙ ap answerOf (sym halts);
-      writes = ap (λ (x : Run). lent (writtenBy x) (a .args .room .now)) (sym halts);
-    }
+    carried-late (call (a .args .job .now)) (a .args .plan) (ran .result) _ (ran .ensures) (a .args .room .now) _ late (c .refusal .ensures)
 
 pub carry-out-spec : {M : Type 1} → statement M
 carry-out-spec =
     tie.close
     (tie.spec
-    slice-aggregate-run-of
-    slice-aggregate-run-of-2
-    slice-aggregate-run-of-3
-    slice-aggregate-run-of-4
-    run-of-requires
+    (λ c. search needs)
+    (λ c κs. search needs)
     cast-write-list
-    slice-aggregate-write-list
-    slice-aggregate-write-list-2
-    slice-aggregate-write-list-3
+    (λ c. search needs)
     write-list-requires
-    accepted-requires
-    same-length
+    (λ c κs. search needs)
+    (λ c. search needs)
     returns
-    refusal-requires
+    (λ c κs. search needs)
     returns-2)

@@ -1,6 +1,5 @@
 -- `plan` meets its contract: its tests are walked in the order of the definition, whatever that order is.
 use borrow.Author.Needs.{needs}
-use Rattle.rules.specs.Refusals.{jobNumber}
 use Rattle.laws.proofs.Verdicts.{end, stop, step}
 use Rattle.laws.proofs.Jobs.{at-job, past-job}
 use Rattle.planner.proofs.Planning.{room-test, roomy, refuses, carries-out}
@@ -17,7 +16,8 @@ plan-spec =
     (λ c. search needs)
     (λ c. search needs)
     (λ c κs. search needs)
-    (λ c. refuses _ _ _ _ (let p : tie.After-read-job = search in jobNumber (p .read-job .result)) 0 (search) (search at-job))
+    (λ c κs. search needs)
+    (λ c. refuses _ _ _ _ (let p : tie.After-job-number = search in p .job-number .result) 0 (search) (search at-job))
     (λ c κs. search needs)
     (λ c κs. search needs)
     (λ c. refuses _ _ _ _ 6 0 (search) (search walk depth 20 fits 4000))

@@ -1,30 +1,33 @@
--- The row copied is the plan's row; conservative has the loads of opt to work off, any other plan none.
-use Prim.Native.Nat.{ℕ, _≤_}
+-- The row begins with the draws. Conservative has the loads of opt to work off, any other plan none.
+use Prim.Native.Nat.{ℕ}
+use native.Mathlib.Omega.{arith}
 use mathlib.Core.List.{List}
-use mathlib.Core.Path.{_≡_, refl, sym, ap, _∙_}
+use mathlib.Core.Path.{_≡_, sym, _∙_}
 use lib.ListN.{length, take}
 use borrow.Author.Needs.{needs}
-use Rattle.rules.specs.Job.{drawsOf}
+use Rattle.rules.specs.Job.{Call, call, drawsOf, most-draws}
 use Rattle.rules.specs.Refusals.{readJob}
 use Rattle.rules.specs.declared.JobReading.the-variants.{Taken}
 use Rattle.rules.specs.declared.Shape.{Shape}
-use Rattle.choice.specs.Asks.{rowOf}
-use Rattle.planner.proofs.Planning.{limits, row-right, row-size}
+use Rattle.laws.specs.Limits.{Limits}
+use Rattle.laws.proofs.Jobs.{limits}
+use Rattle.planner.specs.Runs.{Ended}
+use Rattle.planner.proofs.Planning.{row-draws, row-size, row-long, few-loads, loads-by-plan}
 use Rattle.planner.proofs.answer.run_of.Statement.{statement}
 use Rattle.planner.proofs.answer.run_of.Tie as tie
 
 row-of-requires : tie.Need-row-of-requires
 row-of-requires c κs =
     let s : tie.Start = search in
-    limits (s .args .job .now) (s .args .shape) (s .pre .0) .few-draws
+    limits (call (s .args .job .now)) (s .args .shape) (s .pre .taken) .few-draws
 
--- The plan's row is copied: it is the one asked for, of the right size.
+-- The draws are copied into a row.
 module _ (p : tie.After-row-of) where
   abbrev at-start : tie.Start
   at-start = search
 
-  abbrev job : List ℕ
-  job = at-start .args .job .now
+  abbrev asked : Call
+  asked = call (at-start .args .job .now)
 
   abbrev shape : Shape
   shape = at-start .args .shape
@@ -32,125 +35,92 @@ module _ (p : tie.After-row-of) where
   abbrev plan : ℕ
   plan = at-start .args .plan
 
-  taken : readJob job ≡ Taken shape
-  taken = at-start .pre .0
+  taken : readJob (asked .job) ≡ Taken shape
+  taken = at-start .pre .taken
 
-  sized : (shape .draws ≡ length (take (shape .draws) (p .row-of .result))) × (shape .draws ≤ length (p .row-of .result))
-  sized = row-size plan job shape (p .row-of .result) (p .row-of .ensures)
+  within : Limits asked shape
+  within = limits asked shape taken
 
-  right : rowOf plan (drawsOf job) ≡ take (shape .draws) (p .row-of .result)
-  right = row-right plan job shape (take (shape .draws) (p .row-of .result)) (limits job shape taken .shaped) (p .row-of .ensures)
+  draws : drawsOf asked ≡ take (shape .draws) (p .row-of .result)
+  draws = row-draws asked shape (p .row-of .result) within (p .row-of .ensures)
 
-cast-count : tie.Need-cast-count
-cast-count c = search needs
-
-array-share-prefix-row : tie.Need-array-share-prefix-row
-array-share-prefix-row c =
+array-share-prefix-all : tie.Need-array-share-prefix-all
+array-share-prefix-all c =
     let p : tie.After-row-of = search in
-    sized p .1
+    row-long (asked p) (shape p) (p .row-of .result) (within p) (p .row-of .ensures)
 
-slice-aggregate-run-conservative : tie.Need-slice-aggregate-run-conservative
-slice-aggregate-run-conservative c =
+slice-aggregate-row : tie.Need-slice-aggregate-row
+slice-aggregate-row c =
     let p : tie.After-row-of = search in
-    sized p .0
+    sym (row-size (asked p) (shape p) (p .row-of .result) (within p) (p .row-of .ensures))
 
-run-conservative-requires : tie.Need-run-conservative-requires
-run-conservative-requires c κs =
+run-from-start-requires : tie.Need-run-from-start-requires
+run-from-start-requires c κs =
     let p : tie.After-row-of = search in
-    let conservative : plan p ≡ 1 = search in
-    (taken p, ap (λ (n : ℕ). rowOf n (drawsOf (job p))) (sym conservative) ∙ right p, at-start p .pre .1)
+    let other : plan p ≡ 1 → ⊥ = search in
+    record {
+      has-places = at-start p .pre;
+      draws = draws p;
+      ordered = record { few = omega arith; of-opt = λ one. absurd (other one) };
+    }
 
-same-length : tie.Need-same-length
-same-length c = search needs
+run-from-start-requires-2 : tie.Need-run-from-start-requires-2
+run-from-start-requires-2 c κs =
+    let p : tie.After-row-of = search in
+    record {
+      has-places = at-start p .pre;
+      draws = draws p;
+      ordered = record { few = omega arith; of-opt = λ one. absurd (omega arith) };
+    }
 
-same-length-2 : tie.Need-same-length-2
-same-length-2 c = search needs
-
-same-length-3 : tie.Need-same-length-3
-same-length-3 c = search needs
-
-same-length-4 : tie.Need-same-length-4
-same-length-4 c = search needs
-
--- The run of conservative.
-module _ (p : tie.After-run-conservative) where
+-- Opt has run, so its loads are the first of the row.
+module _ (q : tie.After-run-from-start2) where
   abbrev at-row : tie.After-row-of
   at-row = search
+
+  abbrev loads : List ℕ
+  loads = q .run-from-start2 .last .1 .1 .1 .1 .1 .0
 
   conservative : plan at-row ≡ 1
   conservative = search
 
-returns : tie.Need-returns
-returns c =
-    let p : tie.After-run-conservative = search in
-    rw (conservative p) (p .run-conservative .ensures)
+  ended : Ended 2 (asked at-row) (q .run-from-start2 .result) loads
+  ended = q .run-from-start2 .ensures
 
-array-share-prefix-row-2 : tie.Need-array-share-prefix-row-2
-array-share-prefix-row-2 c =
-    let p : tie.After-row-of = search in
-    sized p .1
+  places : length loads ≡ most-draws
+  places = q .run-from-start2 .kept .1 .1 .1 .1 .1 .0 ∙ at-start at-row .pre .places
 
-slice-aggregate-run-from : tie.Need-slice-aggregate-run-from
-slice-aggregate-run-from c =
-    let p : tie.After-row-of = search in
-    sized p .0
-
-slice-aggregate-run-from-2 : tie.Need-slice-aggregate-run-from-2
-slice-aggregate-run-from-2 c = search needs
-
-slice-aggregate-run-from-3 : tie.Need-slice-aggregate-run-from-3
-slice-aggregate-run-from-3 c = search needs
-
-slice-aggregate-run-from-4 : tie.Need-slice-aggregate-run-from-4
-slice-aggregate-run-from-4 c = search needs
-
-run-from-requires : tie.Need-run-from-requires
-run-from-requires c κs =
-    let p : tie.After-row-of = search in
-    let other : plan p ≡ 1 → ⊥ = search in (
-      taken p,
-      right p,
-      record { even = record { slots-too = refl; symbols-too = refl }; orders = λ one. absurd (other one) },
-      at-start p .pre .1,
-    )
-
-same-length-5 : tie.Need-same-length-5
-same-length-5 c = search needs
-
-same-length-6 : tie.Need-same-length-6
-same-length-6 c = search needs
-
-same-length-7 : tie.Need-same-length-7
-same-length-7 c = search needs
-
-same-length-8 : tie.Need-same-length-8
-same-length-8 c = search needs
+run-from-start-requires-3 : tie.Need-run-from-start-requires-3
+run-from-start-requires-3 c κs =
+    let q : tie.After-run-from-start2 = search in
+    let p = at-row q in
+    let opt = q .run-from-start2 .result in
+    let room = places q in
+    let few = few-loads (asked p) (shape p) (taken p) 2 opt (loads q) (ended q) in
+    record {
+      has-places = record { taken = taken p; places = room };
+      draws = draws p;
+      ordered = record { few = omega arith; of-opt = λ one. loads-by-plan (asked p) (shape p) (taken p) 2 opt (loads q) (ended q) };
+    }
 
 returns-2 : tie.Need-returns-2
-returns-2 c = search needs
+returns-2 c =
+    let q : tie.After-run-from-start2 = search in
+    let last : tie.After-run-from-start3 = search in
+    rw (conservative q) (last .run-from-start3 .ensures)
 
 pub run-of-spec : {M : Type 1} → statement M
 run-of-spec =
     tie.close
     (tie.spec
+    (λ c. search needs)
     row-of-requires
-    cast-count
-    array-share-prefix-row
-    slice-aggregate-run-conservative
-    run-conservative-requires
-    same-length
-    same-length-2
-    same-length-3
-    same-length-4
-    returns
-    array-share-prefix-row-2
-    slice-aggregate-run-from
-    slice-aggregate-run-from-2
-    slice-aggregate-run-from-3
-    slice-aggregate-run-from-4
-    run-from-requires
-    same-length-5
-    same-length-6
-    same-length-7
-    same-length-8
+    array-share-prefix-all
+    slice-aggregate-row
+    run-from-start-requires
+    (λ c. search needs)
+    (λ c. search needs)
+    run-from-start-requires-2
+    run-from-start-requires-3
+    (λ c. search needs)
     returns-2)

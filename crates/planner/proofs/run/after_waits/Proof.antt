@@ -1,4 +1,4 @@
--- Behind a draw no tick is passed over, behind a wait all up to the end of the load under way.
+-- After a draw no tick is passed over, after a wait all up to the end of the load under way.
 use Prim.Native.Nat.{_-_, _≤_, min}
 use native.Mathlib.Omega.{arith}
 use mathlib.Core.Path.{_≡_, ap}
@@ -6,7 +6,7 @@ use borrow.Author.Needs.{needs}
 use Rattle.rules.specs.LoadList.{last-tick}
 use Rattle.display.proofs.Stretches.{rested-none}
 use Rattle.display.specs.Still.{waiting}
-use Rattle.planner.specs.Runs.{Waits}
+use Rattle.planner.specs.Runs.{LoadUnderWay}
 use Rattle.planner.proofs.Walks.{waits-none}
 use Rattle.planner.proofs.run.after_waits.Statement.{statement}
 use Rattle.planner.proofs.run.after_waits.Tie as tie
@@ -33,7 +33,7 @@ returns : tie.Need-returns
 returns c =
     let s : tie.Start = search in
     let a = s .args in
-    rested-none (Waits (a .d)) last-tick (a .happening) (a .d) (s .pre .0) (waits-none (a .d))
+    rested-none (LoadUnderWay (a .d)) last-tick (a .happening) (a .d) (s .pre .in-time) (waits-none (a .d))
 
 returns-2 : tie.Need-returns-2
 returns-2 c =
@@ -46,12 +46,12 @@ returns-2 c =
     let n = fewer .smaller .result in
     let end : ends .before-end .result ≡ d .remaining - 1 = ends .before-end .ensures in
     let least : n ≡ min (8388607 - d .tick) (ends .before-end .result) = fewer .smaller .ensures in
-    let early : d .tick ≤ last-tick = s .pre .0 in
+    let early : d .tick ≤ last-tick = s .pre .in-time in
     record {
       many = n;
       passes = after .pass-waits .ensures;
       in-time = omega arith;
-      behind = λ some. ap waiting (waits .enum-told2 .given .1);
+      after-wait = λ some. ap waiting (waits .enum-told2 .given .1);
       still = record { before-end = λ ends. omega arith; under-way = λ some. omega arith };
     }
 
