@@ -1,0 +1,35 @@
+-- What a host learns of a call of the C surface: the exported contract of the function, at the bytes and numbers of the call. Nothing else
+-- is said of an outcome, and no definition of an answer is between it and the function.
+use Prim.Native.Nat.{ℕ}
+use mathlib.Core.Path.{_≡_}
+use mathlib.Core.List.{List}
+use contract.Lifetimes.{Lfts}
+use denote.Triple.Clauses.{Lasts, atExit}
+use borrow.Fn.World.{ArgsD}
+use Rattle.rules.specs.declared.Answer.{Answer}
+use Rattle.govahrin.proofs.govahrin_plan as govahrin-plan
+use Rattle.govahrin.proofs.govahrin_check as govahrin-check
+
+-- A call of `govahrin_plan` with this job, plan and room ended with this answer and left this in the room.
+pub record PlanOutcome (job : List ℕ) (plan : ℕ) (room : List ℕ) (answer : Answer) (room′ : List ℕ) : Type 0 where
+  pub lifetimes : Lfts (govahrin-plan.signature .lifetimes)
+  pub given : ArgsD govahrin-plan.signature lifetimes
+  pub left : Lasts govahrin-plan.ended lifetimes given
+  pub learnt : govahrin-plan.Reads.Learnt lifetimes given answer (atExit govahrin-plan.ended lifetimes given left)
+  pub with-job : given .0 .now ≡ job
+  pub with-plan : given .1 .0 ≡ plan
+  pub with-room : given .1 .1 .0 .now ≡ room
+  pub left-room : left .1 .1 .0 ≡ room′
+
+-- A call of `govahrin_check` with this job, list and memory for ticks and slots ended with this answer and left this in that memory.
+pub record CheckOutcome (job list ticks slots : List ℕ) (answer : Answer) (ticks′ slots′ : List ℕ) : Type 0 where
+  pub lifetimes : Lfts (govahrin-check.signature .lifetimes)
+  pub given : ArgsD govahrin-check.signature lifetimes
+  pub left : Lasts govahrin-check.ended lifetimes given
+  pub learnt : govahrin-check.Reads.Learnt lifetimes given answer (atExit govahrin-check.ended lifetimes given left)
+  pub with-job : given .0 .now ≡ job
+  pub with-list : given .1 .0 .now ≡ list
+  pub with-ticks : given .1 .1 .0 .now ≡ ticks
+  pub with-slots : given .1 .1 .1 .0 .now ≡ slots
+  pub left-ticks : left .1 .1 .0 ≡ ticks′
+  pub left-slots : left .1 .1 .1 .0 ≡ slots′
