@@ -1,17 +1,27 @@
 // The plans by their names: the number of a name, and of the name that an argument of the program has.
+ghost use mathlib.Core.Path.{_≡_};
+ghost use Rattle.plan_report.specs.Names.{sameBytes, planNamed};
+
+fn is(name: &[u8], other: &[u8]) -> bool
+    ensures { λ r. ⌜ r ≡ sameBytes (now (name .entry)) (now (other .entry)) ⌝ }
+{
+    check::same(name, other)
+}
 
 // A name that no plan has gets 4, a number that no plan has.
-pub fn plan_of(name: &[u8]) -> u32 {
-    if check::same(name, b"aggressive") {
+pub fn plan_of(name: &[u8]) -> u32
+    ensures { λ r. ⌜ r ≡ planNamed (now (name .entry)) ⌝ }
+{
+    if is(name, b"aggressive") {
         return 0;
     }
-    if check::same(name, b"conservative") {
+    if is(name, b"conservative") {
         return 1;
     }
-    if check::same(name, b"opt") {
+    if is(name, b"opt") {
         return 2;
     }
-    if check::same(name, b"lru") {
+    if is(name, b"lru") {
         return 3;
     }
     4

@@ -3,7 +3,7 @@
 use libc::STDERR_FILENO;
 use libc::STDOUT_FILENO;
 
-// The room is that of the longest list, of which 7 bytes and 7 for each load are written.
+// The room is that of the longest list, of which as much is written as the list of the loads takes.
 fn write_list(job: &[u8], plan: u32) {
     let mut room = [0u8; 28679];
     let answer = planner::plan(job, plan, &mut room);
@@ -11,7 +11,7 @@ fn write_list(job: &[u8], plan: u32) {
         report::say_refusal(STDERR_FILENO, answer.number, answer.detail);
         return;
     }
-    let end = io::count((7 + 7 * answer.loads as u64) as isize, &room);
+    let end = io::count(sheet::list_size(answer.loads) as isize, &room);
     if !io::write_all(STDOUT_FILENO, &room[..end]) {
         os::fail(b"cannot write the list");
     }

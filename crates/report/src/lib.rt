@@ -1,5 +1,5 @@
 // What the programs share: saying numbers, answers and refusals on a descriptor, and reading a file that an argument names.
-// No program says or reads any of this in words of its own.
+// No program says or reads any of this in words of its own. What calls the library belongs into plan_report or into a program.
 mod file;
 mod line;
 mod words;

@@ -3,7 +3,6 @@ use libc::STDOUT_FILENO;
 use report::say;
 use report::say_number;
 use rules::Answer;
-use rules::JobReading;
 
 pub fn say_answer(name: &[u8], answer: Answer) {
     say(STDOUT_FILENO, name);
@@ -39,23 +38,15 @@ fn say_slots(draws: u16, slots: &[u8; 4096]) {
     }
 }
 
-fn draws_of(job: &[u8]) -> u16 {
-    let reading = sheet::read_job(job);
-    let JobReading::Taken(shape) = reading else {
-        return 0;
-    };
-    shape.draws
-}
-
 pub fn check_list(name: &[u8], job: &[u8], list: &[u8]) {
     let mut ticks = [0u32; 4096];
     let mut slots = [0u8; 4096];
-    let answer = checker::check(job, list, &mut ticks, &mut slots);
+    let checked = checker::check_draws(job, list, &mut ticks, &mut slots);
+    let answer = checked.answer;
     say_answer(name, answer);
     if answer.number == 0 {
-        let draws = draws_of(job);
-        say_ticks(draws, &ticks);
-        say_slots(draws, &slots);
+        say_ticks(checked.draws, &ticks);
+        say_slots(checked.draws, &slots);
     }
     say(STDOUT_FILENO, b"\n");
 }

@@ -27,7 +27,7 @@ pub fn rows() {
     check_one(b"row j, a slot that is not there", &job, 0, 2, 3);
 }
 
-// The job in the front of the room, of so many slots and two draws, and a list that loads symbol 97 into slot 63 at tick 0.
+// The job in the front of the room, of this many slots and two draws, and a list that loads symbol 97 into slot 63 at tick 0.
 fn check_front(name: &[u8], room: &[u8], slots: u8) {
     let end = 14 + 2 * slots as usize;
     if end <= room.len() {
@@ -35,7 +35,7 @@ fn check_front(name: &[u8], room: &[u8], slots: u8) {
     }
 }
 
-// A job of so many slots and this load time that draws the symbols 1 and 97.
+// A job of this many slots and this load time that draws the symbols 1 and 97.
 fn edge(name: &[u8], slots: u8, time: u16) {
     let mut room = [0u8; 8330];
     put_job(&mut room, slots, time, 2, 96);

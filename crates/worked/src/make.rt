@@ -54,7 +54,7 @@ fn put_head(room: &mut [u8], slots: u8, time: u16, draws: u16) {
     put_number(room, 8, draws);
 }
 
-// So many symbols from this place on, in steps round the symbols from 1 to 97: enough that no display holds them all.
+// This many symbols from this place on, in steps round the symbols from 1 to 97: enough that no display holds them all.
 fn put_round(room: &mut [u8], from: u32, count: u16, step: u16)
     requires { ⌜ from < 65536 ⌝ }
 {

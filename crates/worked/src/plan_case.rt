@@ -5,7 +5,7 @@ use report::say;
 use report::say_number;
 use rules::ListReading;
 
-// The length is that of the list that stands in these bytes, as the check would read it.
+// The length is that of the list in these bytes, as the check would read it.
 fn say_list(list: &[u8]) {
     let head = sheet::read_list(list);
     let ListReading::Listed(count) = head else {
@@ -13,7 +13,7 @@ fn say_list(list: &[u8]) {
         return;
     };
     say(STDOUT_FILENO, b"; a list of");
-    say_number(STDOUT_FILENO, 7 + 7 * count as u32);
+    say_number(STDOUT_FILENO, sheet::list_size(count as u32) as u32);
     say(STDOUT_FILENO, b" bytes");
 }
 
@@ -21,7 +21,7 @@ pub fn plan_in(room: &mut [u8], name: &[u8], job: &[u8], plan: u32) {
     let answer = planner::plan(job, plan, room);
     say_answer(name, answer);
     if answer.number == 0 {
-        let end = io::count((7 + 7 * answer.loads as u64) as isize, room);
+        let end = io::count(sheet::list_size(answer.loads) as isize, room);
         say_list(&room[..end]);
     }
     say(STDOUT_FILENO, b"\n");
