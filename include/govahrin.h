@@ -58,7 +58,7 @@
    MEMORY. The library has no state, allocates nothing and keeps no pointer. It asks nothing of the bytes that it is
    lent: any content, any alignment, any length, and a null pointer where the length is 0. Three things it cannot see,
    and there it trusts its caller:
-   - a length is no more than the memory behind its pointer: the library believes it, and reads or writes that far;
+   - a length is no more than the memory at its pointer: the library believes it, and reads or writes that far;
    - memory that a call may write overlaps nothing else that the call is given;
    - the stack has room for the call: GOVAHRIN_PLAN_STACK or GOVAHRIN_CHECK_STACK bytes.
    A govahrin_answer is returned by value and is aligned as uint32_t is.
@@ -99,7 +99,7 @@ enum {
     GOVAHRIN_JOB_VERSION = 2,    /* the job's version is not 1 */
     GOVAHRIN_JOB_LIMITS = 3,     /* k, F or n is outside its limits */
     GOVAHRIN_JOB_SIZE_WRONG = 4, /* the job's length is not 6 + 2k + 2n */
-    GOVAHRIN_JOB_SYMBOLS = 5,    /* a symbol stands in two starting slots, or 65535 is drawn */
+    GOVAHRIN_JOB_SYMBOLS = 5,    /* a symbol is in two starting slots, or 65535 is drawn */
     GOVAHRIN_PLAN_NUMBER = 6,    /* the plan number is above 3 */
     GOVAHRIN_ROOM = 7,           /* lent room is too short */
     GOVAHRIN_LIST_BYTES = 8,     /* the list has under 7 bytes, a wrong length or version, or more than 4,096 events */
@@ -161,14 +161,14 @@ enum {
 
 /* The most stack that a call of the x86-64 archive takes, in bytes: upper bounds, measured by tests/stack_run on the
    largest inputs. They include some 3,000 bytes for a dynamic loader that looks up memset or memcpy during the call. */
-#define GOVAHRIN_PLAN_STACK 78848
+#define GOVAHRIN_PLAN_STACK 54272
 #define GOVAHRIN_CHECK_STACK 41984
 
 /* Plans a job by one of the four plans.
    job, job_len    the job's bytes; only read
    plan            GOVAHRIN_AGGRESSIVE, GOVAHRIN_CONSERVATIVE, GOVAHRIN_OPT or GOVAHRIN_LRU
    room, room_len  lent room of at least GOVAHRIN_PLAN_ROOM(n) bytes
-   Accepted: the load list stands in room from its first byte and has GOVAHRIN_LIST_SIZE(loads) bytes; the bytes behind
+   Accepted: the load list is in room from its first byte and has GOVAHRIN_LIST_SIZE(loads) bytes; the bytes after
    it are as they were. The counts are those that a check of the list answers. Refusals 1 to 7 and 15. */
 govahrin_answer govahrin_plan(const uint8_t *job, size_t job_len, uint32_t plan, uint8_t *room, size_t room_len);
 
@@ -178,7 +178,7 @@ govahrin_answer govahrin_plan(const uint8_t *job, size_t job_len, uint32_t plan,
    ticks, ticks_len  lent room of at least GOVAHRIN_TICKS_ROOM(n) bytes
    slots, slots_len  lent room of at least GOVAHRIN_SLOTS_ROOM(n) bytes
    Accepted: ticks has for each draw its tick, 4 big-endian bytes each, and slots the slot it is drawn from, a byte
-   each; the bytes behind them are as they were. Refusals 1 to 5 and 7 to 14. */
+   each; the bytes after them are as they were. Refusals 1 to 5 and 7 to 14. */
 govahrin_answer govahrin_check(const uint8_t *job, size_t job_len, const uint8_t *list, size_t list_len,
                                uint8_t *ticks, size_t ticks_len, uint8_t *slots, size_t slots_len);
 

@@ -1,5 +1,5 @@
 # clean(words): the same words as one line of UTF-8 without control characters, fit for a message and for a picture. A byte that is
-# neither stands there as a backslash and three octal digits.
+# neither becomes a backslash and three octal digits.
 
 function fillBytes(   i) { for (i = 1; i < 256; i++) byteOf[sprintf("%c", i)] = i }
 

@@ -39,7 +39,7 @@ believe() { # NAME WHAT DRAWS
     verdict=$1 number=${2-} detail=${3-}
 }
 
-# The number that so many bytes at a place name; nothing where the file is shorter.
+# The number that the bytes at a place name; nothing where the file is shorter.
 number_at() { # NAME PLACE BYTES
     od -An -v -tu1 -j "$2" -N "$3" "$scratch/$1" 2>/dev/null |
         awk -v bytes="$3" '{ for (i = 1; i <= NF; i++) { sum = sum * 256 + $i; count++ } } END { if (count == bytes) print sum }'

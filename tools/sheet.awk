@@ -17,7 +17,7 @@ part == "run" { drawTick[made] = $3 + 0; drawSlot[made++] = $4 + 0 }
 function least(a, b) { return a < b ? a : b }
 function most(a, b) { return a > b ? a : b }
 
-# The big-endian number of so many bytes at a place of the job, and of the list.
+# The big-endian number of some bytes at a place of the job, and of the list.
 function ofJob(at, count,   sum) {
     while (count-- > 0) sum = sum * 256 + jobByte[at++]
     return sum + 0

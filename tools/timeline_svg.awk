@@ -14,8 +14,8 @@ function safe(words) {
 
 # Words and the room that they take. Each reader has other letters, so all are taken to be as wide as the widest usual ones.
 
-# The place behind the character that begins at a place; the bytes that go on a character are those of goesOn.
-function behind(words, at) {
+# The place after the character that begins at a place; the bytes that go on a character are those of goesOn.
+function after(words, at) {
     for (at++; at <= length(words) && index(goesOn, substr(words, at, 1)); at++);
     return at
 }
@@ -31,7 +31,7 @@ function partOf(character) {
 function wideOf(words,   at, to, sum) {
     if (words in wideKnown) return wideKnown[words]
     for (at = 1; at <= length(words); at = to) {
-        to = behind(words, at)
+        to = after(words, at)
         sum += partOf(substr(words, at, to - at))
     }
     return wideKnown[words] = sum * 13
@@ -40,7 +40,7 @@ function wideOf(words,   at, to, sum) {
 # Words cut to a room, with an ellipsis for what is left out.
 function cutTo(room, words,   at, to, sum, kept) {
     for (at = 1; at <= length(words); at = to) {
-        to = behind(words, at)
+        to = after(words, at)
         sum += 13 * partOf(substr(words, at, to - at))
         if (sum > room) return substr(words, 1, kept) "\342\200\246"
         if (sum <= room - 13 && substr(words, at, 1) != " ") kept = to - 1
@@ -62,12 +62,12 @@ function rectangle(x, y, width, height, class, more, words) {
 # A box has an outline where it is wide enough for one.
 function box(x, y, width, height, class, words) { rectangle(x, y, width, height, class (width < 2 ? "" : " o"), "", words) }
 
-# A draw's mark: a dot, or less wide than high where ticks are narrow. Draws that stand close have one mark.
+# A draw's mark: a dot, or less wide than high where ticks are narrow. Draws that are close together have one mark.
 function mark(x, y, width, words) {
     rectangle(x, y, width, 6, "d", markWidth > 2 ? " rx=\"" number(markWidth / 2) "\"" : "", words)
 }
 
-# Where things stand. All heights are multiples of 9, the size of a pattern, so that a pattern lies alike in all boxes.
+# Where things are. All heights are multiples of 9, the size of a pattern, so that a pattern lies alike in all boxes.
 function top(band) { return head + band * (slots * 27 + 54) }
 function down(row, band) { return top(band) + 18 + row * 27 }
 function startOf(band) { return first + band * perBand }
@@ -178,7 +178,7 @@ function definitions(   i, symbol, class) {
 
 # The bands.
 
-# What stands in a box: all of keep and as much of the name as there is room for, or else the short word, or nothing.
+# What is in a box: all of keep and as much of the name as there is room for, or else the short word, or nothing.
 function label(x, y, width, class, keep, name, short,   room) {
     room = width - 8
     if (name != "" && wideOf(keep) + 60 <= room) text(x + 4, y, class, cutTo(room, keep " " name))
@@ -236,7 +236,7 @@ function drawMark(slot,   band, words) {
     gathered[slot] = 0
 }
 
-# Gathers the draws of a slot that stand closer than a mark is wide.
+# Gathers the draws of a slot that are closer together than a mark is wide.
 function drawDraws(   draw, slot, tick) {
     for (draw = 0; draw < made; draw++) {
         tick = drawTick[draw]
@@ -268,7 +268,7 @@ function drawRefusal(   band, x, width) {
     text(x + width / 2, down(slots, band) + 13, "i m", "!")
 }
 
-# Every how many ticks a number stands: the first of 1, 2, 5, 10, 20, 50 .. that leaves room for it.
+# Every how many ticks there is a number: the first of 1, 2, 5, 10, 20, 50 .. that leaves room for it.
 function axisStep(room,   step, digit) {
     step = digit = 1
     while (step * tickWidth < room) {
@@ -299,7 +299,7 @@ function axis(band,   step, tick, row) {
     text(left - 6, down(slots, band) + 13, "e", "waits")
 }
 
-# The sum of the waits stands at the end of their last row, or below it where there is no room.
+# The sum of the waits is at the end of their last row, or below it where there is no room.
 function drawSum(   x, y) {
     x = across(until, bands - 1) + 8
     y = down(slots, bands - 1) + 13
@@ -320,7 +320,7 @@ function keys(name) {
     if (name != "") text(left - 6, below + 12, "q e", name)
 }
 
-# A swatch with a sign in it and its words behind it; the next one stands so much room further, or on a new line.
+# A swatch with a sign in it and its words after it; the next one comes after the room of this one, or on a new line.
 function key(class, textClass, sign, swatch, words, room) {
     if (keyX > left && keyX + room > left + bandWidth) {
         keyX = left

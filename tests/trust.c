@@ -1,0 +1,77 @@
+/* What happens where a caller breaks the trust that include/govahrin.h puts in it. `trust overlap` makes calls whose memory overlaps and
+   compares answers and bytes with what this file says of them; `trust plan` makes the largest plan, to be run on too small a stack. */
+#include "govahrin.h"
+#include <stdio.h>
+#include <string.h>
+
+enum { SLOTS = GOVAHRIN_MOST_SLOTS, TIME = GOVAHRIN_MOST_LOAD_TIME, DRAWS = GOVAHRIN_MOST_DRAWS };
+
+/* Job a of the worked sheets, the list of its conservative plan, and the draws of that list. */
+static const uint8_t job_a[] = {0, 0, 0, 18, 1, 2, 0, 4, 0, 4, 0, 1, 0, 2, 0, 1, 0, 2, 0, 3, 0, 1};
+static const uint8_t list_a[] = {0, 0, 0, 10, 1, 0, 1, 0, 0, 0, 2, 1, 0, 3};
+static const uint8_t ticks_a[] = {0, 0, 0, 0, 0, 0, 0, 1, 0, 0, 0, 6, 0, 0, 0, 7};
+static const uint8_t slots_a[] = {0, 1, 1, 0};
+
+static uint8_t memory[64], other[64];
+static unsigned wrong;
+
+static void hold(const char *call, govahrin_answer a, const uint8_t *left, const uint8_t *expected, size_t len)
+{
+    if (a.number == 0 && a.detail == 0 && a.elapsed == 8 && a.waits == 4 && a.loads == 1 && memcmp(left, expected, len) == 0) return;
+    printf("%s: answered %u, or left other bytes\n", call, (unsigned)a.number);
+    wrong = 1;
+}
+
+/* The room lies over the job: the job is read before the list is written. */
+static void plan_over_its_job(void)
+{
+    memcpy(memory, job_a, sizeof job_a);
+    hold("a plan over its job", govahrin_plan(memory, sizeof job_a, GOVAHRIN_CONSERVATIVE, memory, 35), memory, list_a, sizeof list_a);
+}
+
+/* The memory for ticks lies over the list, that for slots over the job: both are read before anything is written. */
+static void check_over_its_inputs(void)
+{
+    govahrin_answer a;
+    memcpy(memory, list_a, sizeof list_a);
+    memcpy(other, job_a, sizeof job_a);
+    a = govahrin_check(other, sizeof job_a, memory, sizeof list_a, memory, sizeof memory, other, sizeof other);
+    hold("a check over its list", a, memory, ticks_a, sizeof ticks_a);
+    hold("a check over its job", a, other, slots_a, sizeof slots_a);
+}
+
+/* Ticks and slots share their memory: the ticks are written last, and the slots are lost. */
+static void check_with_one_memory(void)
+{
+    govahrin_answer a = govahrin_check(job_a, sizeof job_a, list_a, sizeof list_a, memory, sizeof memory, memory, sizeof memory);
+    hold("a check with one memory for both", a, memory, ticks_a, sizeof ticks_a);
+}
+
+static uint8_t job[GOVAHRIN_JOB_SIZE(SLOTS, DRAWS)], room[GOVAHRIN_PLAN_ROOM(DRAWS)];
+
+static void put(uint8_t *at, unsigned bytes, uint32_t number)
+{
+    while (bytes--) at[bytes] = (uint8_t)number, number /= 256;
+}
+
+static int largest_plan(void)
+{
+    unsigned i;
+    put(job, 4, sizeof job - 4);
+    job[4] = 1, job[5] = SLOTS;
+    put(job + 6, 2, TIME);
+    put(job + 8, 2, DRAWS);
+    for (i = 0; i < SLOTS; i++) put(job + 10 + 2 * i, 2, GOVAHRIN_FREE);
+    for (i = 0; i < DRAWS; i++) put(job + 10 + 2 * SLOTS + 2 * i, 2, i % (SLOTS + 1));
+    return govahrin_plan(job, sizeof job, GOVAHRIN_LRU, room, sizeof room).number != 0;
+}
+
+int main(int count, char **words)
+{
+    if (count == 2 && strcmp(words[1], "plan") == 0) return largest_plan();
+    if (count != 2 || strcmp(words[1], "overlap") != 0) return 2;
+    plan_over_its_job();
+    check_over_its_inputs();
+    check_with_one_memory();
+    return wrong;
+}
