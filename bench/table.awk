@@ -95,7 +95,7 @@ END {
     print "The library against `bench/plain.c`, a plain C program for the same rules with the same searches. Both run in one"
     print "process on the same inputs, turn about, and must give the same bytes. Written by `bench/run`."
     print "\nA cell has the processor time of the library / that of the plain program: the median and, in brackets, the least and"
-    printf "the greatest of %d repeats, %d with the library's code in each of four places. Behind it stands the library's time\n",
+    printf "the greatest of %d repeats, %d with the library's code in each of four places. After it comes the library's time\n",
         repeats, repeats / 4
     print "for one call, the median. The aim is a ratio of at most 1.2; a ratio above it is bold."
     print "\nThe machine: " told["processor"] ", " told["cores"] (told["cores"] == 1 ? " core" : " cores") \
