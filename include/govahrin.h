@@ -61,6 +61,8 @@
    - a length is no more than the memory at its pointer: the library believes it, and reads or writes that far;
    - memory that a call may write overlaps nothing else that the call is given;
    - the stack has room for the call: GOVAHRIN_PLAN_STACK or GOVAHRIN_CHECK_STACK bytes.
+   Measured, and not promised: where memory overlaps, the answer is still right, and one result lies over the other;
+   where the stack is too small, a system that guards its end stops the process, and there is no answer.
    A govahrin_answer is returned by value and is aligned as uint32_t is.
 
    THREADS. Any number of threads may call at once, each with its own lent memory. A call blocks on nothing and calls
