@@ -21,7 +21,8 @@ use Rattle.choice.specs.declared.ask.Order.the-variants.{Due, Nothing}
 use Rattle.choice.specs.Asks.{Quiet, Seen, OnDemand, orderAsks, asksBy}
 
 -- The parts of a state that a plan looks at, put in one by one.
-ap3 : {A B C D : Type 0} (f : A → B → C → D) {a a′ : A} {b b′ : B} {c c′ : C} → a ≡ a′ → b ≡ b′ → c ≡ c′ → f a b c ≡ f a′ b′ c′
+ap3 : {A B C D : Type 0} (f : A → B → C → D) {a a′ : A} {b b′ : B} {c c′ : C} → a ≡ a′ → b ≡ b′ → c ≡ c′
+    → f a b c ≡ f a′ b′ c′
 ap3 f p q r = rw (p, q, r)
 
 -- ---- Aggressive

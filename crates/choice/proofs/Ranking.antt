@@ -181,7 +181,8 @@ module _ (ranks : List ℕ) where
   next-rank : (slot : ℕ) → slot < length ranks → drop slot ranks ≡ getD ranks slot 0 ∷ drop (slot + 1) ranks
   next-rank slot within = rw add-one (drop-cons ranks slot 0 within)
 
-  pub left-more : (best most slot : ℕ) → slot < length ranks → most < getD ranks slot 0 → Left best most slot → Left slot (getD ranks slot 0) (slot + 1)
+  pub left-more : (best most slot : ℕ) → slot < length ranks → most < getD ranks slot 0 → Left best most slot
+      → Left slot (getD ranks slot 0) (slot + 1)
   left-more best most slot within h before =
       before ∙ ap (firstAbove best most slot) (next-rank slot within) ∙ above-more best most slot (getD ranks slot 0) _ h
 

@@ -14,7 +14,8 @@ module _ (slots rest : List ℕ) (at : ℕ) where
   unfolding missing
   missing-here within e = ap (missing slots) (drop-cons rest at 0 within) ∙ rw e
 
-  pub missing-further : at < length rest → stands (getD rest at 0) slots ≡ true → missing slots (drop at rest) ≡ suc (missing slots (drop (at + 1) rest))
+  pub missing-further : at < length rest → stands (getD rest at 0) slots ≡ true
+      → missing slots (drop at rest) ≡ suc (missing slots (drop (at + 1) rest))
   unfolding missing
   missing-further within e = ap (missing slots) (drop-cons rest at 0 within) ∙ rw (e, add-one)
 

@@ -52,7 +52,8 @@ last-here t u q x (event v r y ∷ front) h = rw (last-here t u q x front h)
 -- ---- What the loader says
 
 -- Where all loads have ended, nothing is loading.
-ended-nothing : (time t x : ℕ) (a b : LastLoad) → causeBy time t x a ≡ Nothing → causeBy time t x b ≡ Nothing → causeBy time t x (orElse a b) ≡ Nothing
+ended-nothing : (time t x : ℕ) (a b : LastLoad) → causeBy time t x a ≡ Nothing → causeBy time t x b ≡ Nothing
+    → causeBy time t x (orElse a b) ≡ Nothing
 ended-nothing time t x none b ha hb = hb
 ended-nothing time t x (last u y) b ha hb = ha
 
@@ -78,7 +79,7 @@ loader-says job tick next x rest slots (Under left q y) begun g b =
     let u : Underway job slots left q y = g .under left q y refl in
     let began : l .tick ≤ tick = omega arith in
     let is : lastBegun tick (map eventOf begun) ≡ last (l .tick) y =
-    rw (l .is-last, map-snoc) (last-here tick (l .tick) q y (map eventOf (l .before)) began) in
+    rw (l .is-last, map-snoc) (last-here tick (l .tick) q y (map eventOf (l .earlier)) began) in
     rw (is, lt-leb (l .tick + job .load-time) tick (omega arith))
 
 -- ---- A run along a list

@@ -40,11 +40,11 @@ ended-now time tick Idle begun h =
 ended-now time tick (Under left q x) begun h =
     let l : Last time (tick + left + 1) q x begun = h .last left q x refl in
     let (at, size) = last-tick-begun _ _ _ _ _ l in
-    let inside : length (l .before) < length (map loadTick begun) = rw length-map (omega arith) in
-    let now : getD (map loadTick begun) (length (l .before)) 0 < tick + 1 = h .past (length (l .before)) inside in
-    let all : length (l .before) ≤ endedBy time (tick + 1) (map eventOf (l .before ++ (loaded (l .tick) (l .draw) q x ∷ []))) =
-    all-ended time (tick + 1) (l .before) _
-    (λ i m. let b : getD (map loadTick (l .before)) i 0 + time ≤ l .tick = l .ended i m in omega arith) in
+    let inside : length (l .earlier) < length (map loadTick begun) = rw length-map (omega arith) in
+    let now : getD (map loadTick begun) (length (l .earlier)) 0 < tick + 1 = h .past (length (l .earlier)) inside in
+    let all : length (l .earlier) ≤ endedBy time (tick + 1) (map eventOf (l .earlier ++ (loaded (l .tick) (l .draw) q x ∷ []))) =
+    all-ended time (tick + 1) (l .earlier) _
+    (λ i m. let b : getD (map loadTick (l .earlier)) i 0 + time ≤ l .tick = l .ended i m in omega arith) in
     omega (arith, rw (← l .is-last) at all)
 
 -- The same between ticks.

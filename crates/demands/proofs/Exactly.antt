@@ -37,11 +37,11 @@ use Rattle.demands.proofs.Events.{as-many, tick-begun, event-due, due-l
 
 -- The load begun last, counted in the list.
 pub last-tick-begun : (time end q x : ℕ) (begun : List Loaded) (l : Last time end q x begun)
-    → (getD (map loadTick begun) (length (l .before)) 0 ≡ l .tick) × (length begun ≡ length (l .before) + 1)
+    → (getD (map loadTick begun) (length (l .earlier)) 0 ≡ l .tick) × (length begun ≡ length (l .earlier) + 1)
 last-tick-begun time end q x begun l =
-    let size : length (map loadTick (l .before)) ≡ length (l .before) = length-map (l .before) loadTick in (
-      rw (l .is-last, map-snoc) (getD-at (map loadTick (l .before)) (l .tick) [] 0 (length (l .before)) size),
-      rw (l .is-last) (length-snoc (l .before) _),
+    let size : length (map loadTick (l .earlier)) ≡ length (l .earlier) = length-map (l .earlier) loadTick in (
+      rw (l .is-last, map-snoc) (getD-at (map loadTick (l .earlier)) (l .tick) [] 0 (length (l .earlier)) size),
+      rw (l .is-last) (length-snoc (l .earlier) _),
     )
 
 -- A list whose events may all begin has none of them refused.
@@ -55,11 +55,11 @@ module _ (job : Job) (events : List Event) (end : ℕ) (may : (i : ℕ) → i < 
       let l : Last (job .load-time) (s .tick + rest + 1) r y (s .begun) = g .0 .0 .1 .last rest r y e in
       let (at, size) = last-tick-begun _ _ _ _ _ l in
       let many : length (s .begun) ≡ s .loads = as-many a in
-      let inside : length (l .before) < s .loads = omega arith in
-      let when : eventTick (eventAt events (length (l .before))) ≡ l .tick = tick-begun a (length (l .before)) inside ∙ at in
+      let inside : length (l .earlier) < s .loads = omega arith in
+      let when : eventTick (eventAt events (length (l .earlier))) ≡ l .tick = tick-begun a (length (l .earlier)) inside ∙ at in
       let now : eventTick (eventAt events (s .loads)) ≡ s .tick = ap eventTick (event-due events (s .loads) (s .tick) q x asks) in
-      let ended : eventTick (eventAt events (length (l .before))) + job .load-time ≤ eventTick (eventAt events (s .loads)) =
-      may (s .loads) left .idle (length (l .before)) inside in
+      let ended : eventTick (eventAt events (length (l .earlier))) + job .load-time ≤ eventTick (eventAt events (s .loads)) =
+      may (s .loads) left .idle (length (l .earlier)) inside in
       omega arith)
 
   load-goes : (q x : ℕ) (s : State) → due (drop (s .loads) events) (s .tick) ≡ Load q x → HoldingLanded job events s

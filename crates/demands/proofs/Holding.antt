@@ -115,17 +115,17 @@ holds-begins job tick next q x slots begun some-load-time row h r inside =
 -- What the last load begun says about its own slot and about another.
 module _ (time end q x : ℕ) (begun : List Loaded) (l : Last time end q x begun) where
   here : (t : ℕ) → l .tick ≤ t → lastLoad q t (map eventOf begun) ≡ last (l .tick) x
-  here t h = rw (l .is-last, map-snoc) (last-here q t (l .tick) x (map eventOf (l .before)) h)
+  here t h = rw (l .is-last, map-snoc) (last-here q t (l .tick) x (map eventOf (l .earlier)) h)
 
-  elsewhere : (t r : ℕ) → (q ≡ r → ⊥) → lastLoad r t (map eventOf begun) ≡ lastLoad r t (map eventOf (l .before))
-  elsewhere t r h = rw (l .is-last, map-snoc) (last-elsewhere r t (l .tick) q x (map eventOf (l .before)) h)
+  elsewhere : (t r : ℕ) → (q ≡ r → ⊥) → lastLoad r t (map eventOf begun) ≡ lastLoad r t (map eventOf (l .earlier))
+  elsewhere t r h = rw (l .is-last, map-snoc) (last-elsewhere r t (l .tick) q x (map eventOf (l .earlier)) h)
 
   elsewhere-stays : (starting t r : ℕ) → (q ≡ r → ⊥) → l .tick ≤ t
       → leaves starting time (t + 1) (lastLoad r (t + 1) (map eventOf begun)) ≡ leaves starting time t (lastLoad r t (map eventOf begun))
   elsewhere-stays starting t r h began =
       rw (elsewhere (t + 1) r h, elsewhere t r h)
-      (stays starting time t r (l .before)
-      (λ i m. let b : getD (map loadTick (l .before)) i 0 + time ≤ l .tick = l .ended i m in omega arith))
+      (stays starting time t r (l .earlier)
+      (λ i m. let b : getD (map loadTick (l .earlier)) i 0 + time ≤ l .tick = l .ended i m in omega arith))
 
 holds-passes : (job : Job) (tick next : ℕ) (rest slots : List ℕ) (loading : Loading) (begun : List Loaded)
     → Sane job next rest slots loading

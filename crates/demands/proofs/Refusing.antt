@@ -59,7 +59,8 @@ plan-found asked plan room n d e = by-verdict (firstOf (lateTests asked plan roo
         held-and-failed true refl (rw stops at in-limit)
 
 -- A plan of a job that is taken is over in time.
-in-limit : (asked : Call) (plan : ℕ) → readJob (asked .job) ≡ Taken (shapeOf (asked .job)) → late (runPlan (jobOf asked) (ruleOf (jobOf asked) plan)) ≡ false
+in-limit : (asked : Call) (plan : ℕ) → readJob (asked .job) ≡ Taken (shapeOf (asked .job))
+    → late (runPlan (jobOf asked) (ruleOf (jobOf asked) plan)) ≡ false
 in-limit asked plan taken =
     let d : Done (jobOf asked) (ruleOf (jobOf asked) plan) Any = plan-done (jobOf asked) (proper asked _ taken) plan in rw (d .ran, d .over)
 
@@ -125,7 +126,8 @@ unfolding checked
 check-is-tests asked list ticks slots = refl
 
 -- A check is refused only as the table gives it,
-pub check-given : (asked : Call) (list : List ℕ) (ticks slots n d : ℕ) → checked asked list ticks slots ≡ refused n d → Given asked list ticks slots n d
+pub check-given : (asked : Call) (list : List ℕ) (ticks slots n d : ℕ) → checked asked list ticks slots ≡ refused n d
+    → Given asked list ticks slots n d
 check-given asked list ticks slots n d e = by-verdict (firstOf (checkTests asked list ticks slots)) refl (sym (check-is-tests asked list ticks slots) ∙ e)
   where
     by-time : Quiet (checkRows asked list ticks slots)
@@ -142,7 +144,8 @@ check-given asked list ticks slots n d e = by-verdict (firstOf (checkTests asked
         (refused-so (jobOf asked) (eventsOf list) (proper asked _ taken) ordered n d stops)
 
 -- and what the table gives refuses it.
-pub given-check : (asked : Call) (list : List ℕ) (ticks slots n d : ℕ) → Given asked list ticks slots n d → checked asked list ticks slots ≡ refused n d
+pub given-check : (asked : Call) (list : List ℕ) (ticks slots n d : ℕ) → Given asked list ticks slots n d
+    → checked asked list ticks slots ≡ refused n d
 given-check asked list ticks slots n d (at-once g) =
     checked-met asked list ticks slots n d (gives-met _ _ n d (check-words asked list ticks slots) g)
 given-check asked list ticks slots n d (in-time q m) =

@@ -52,7 +52,8 @@ late-done job (Load q x) s done ends e = rw (never-stuck job q x s done, never-s
 
 -- ---- What is beside the display
 
-same-begun : (d l : Display) (asked : MaybeLoad) (h : History) → l .tick ≡ d .tick → l .next ≡ d .next → historyBegun d asked h ≡ historyBegun l asked h
+same-begun : (d l : Display) (asked : MaybeLoad) (h : History) → l .tick ≡ d .tick → l .next ≡ d .next
+    → historyBegun d asked h ≡ historyBegun l asked h
 same-begun d l NoLoad h t n = refl
 same-begun d l (Load q x) h t n = rw (t, n)
 

@@ -30,7 +30,8 @@ module _ {job : List ℕ} {plan : ℕ} {room : List ℕ} {answer : Answer} {room
   plan-room : room′ ≡ lent (writtenBy (planned (call job) plan (length room))) room
   plan-room = rw (← o .with-job, ← o .with-plan, ← o .with-room, ← o .left-room) (o .learnt .1)
 
-module _ {job list ticks slots : List ℕ} {answer : Answer} {ticks′ slots′ : List ℕ} (o : CheckOutcome job list ticks slots answer ticks′ slots′) where
+module _ {job list ticks slots : List ℕ} {answer : Answer} {ticks′ slots′ : List ℕ}
+    (o : CheckOutcome job list ticks slots answer ticks′ slots′) where
   check-answer : answer ≡ answerOf (checkedForC (call job) list (length ticks) (length slots))
   check-answer = rw (← o .with-job, ← o .with-list, ← o .with-ticks, ← o .with-slots) (o .learnt .0)
 
@@ -57,7 +58,8 @@ module _ {job : List ℕ} {plan : ℕ} {room : List ℕ} {answer : Answer} {room
       (PlanAnswers.refused (plan-refusals (call job) plan (length room) _ _ some .0 (refl, refl)) (whole .counts some)
       (plan-room o ∙ whole .room some room)))
 
-module _ {job list ticks slots : List ℕ} {answer : Answer} {ticks′ slots′ : List ℕ} (o : CheckOutcome job list ticks slots answer ticks′ slots′) where
+module _ {job list ticks slots : List ℕ} {answer : Answer} {ticks′ slots′ : List ℕ}
+    (o : CheckOutcome job list ticks slots answer ticks′ slots′) where
   pub check-always-answers : CheckAnswers job list ticks slots answer ticks′ slots′
   check-always-answers =
       let r = checkedForC (call job) list (length ticks) (length slots) in
@@ -74,7 +76,8 @@ module _ {job list ticks slots : List ℕ} {answer : Answer} {ticks′ slots′ 
 
 -- ---- Demand 2: what is accepted is right, and each plan is accepted
 
-module _ {job list ticks slots : List ℕ} {answer : Answer} {ticks′ slots′ : List ℕ} (o : CheckOutcome job list ticks slots answer ticks′ slots′) where
+module _ {job list ticks slots : List ℕ} {answer : Answer} {ticks′ slots′ : List ℕ}
+    (o : CheckOutcome job list ticks slots answer ticks′ slots′) where
   -- A check accepts exactly the lists for which there is such a sheet, and it is the sheet that it hands out.
   pub check-accepts-exactly : (answer .number ≡ 0) ↔ HoldsSheet job list ticks slots answer ticks′ slots′
   check-accepts-exactly = (

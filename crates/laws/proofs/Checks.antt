@@ -88,7 +88,8 @@ unfolding checked
 past-tests asked list ticks slots s e = unless-going (firstOf (checkTests asked list ticks slots)) (follows (jobOf asked) (eventsOf list)) s e
 
 -- So it is an accepted one.
-pub accepted : (asked : Call) (list : List ℕ) (ticks slots : ℕ) (s : State) → checked asked list ticks slots ≡ going s → Accepted asked list ticks slots s
+pub accepted : (asked : Call) (list : List ℕ) (ticks slots : ℕ) (s : State) → checked asked list ticks slots ≡ going s
+    → Accepted asked list ticks slots s
 unfolding jobTests shortCheck
 accepted asked list ticks slots s e =
     let (past, f) = past-tests asked list ticks slots s e in

@@ -126,12 +126,12 @@ ahead (Under left q x) = left + 1
 
 -- The load that was begun last, at tick u, all others having ended by then.
 pub record Last (time end q x : ℕ) (begun : List Loaded) : Type 0 where
-  pub before : List Loaded
+  pub earlier : List Loaded
   pub tick : ℕ
   pub draw : ℕ
-  pub is-last : begun ≡ before ++ (loaded tick draw q x ∷ [])
+  pub is-last : begun ≡ earlier ++ (loaded tick draw q x ∷ [])
   pub ends : tick + time ≡ end
-  pub ended : Each (λ u. u + time ≤ tick) (map loadTick before)
+  pub ended : Each (λ u. u + time ≤ tick) (map loadTick earlier)
 
 -- Of the loads begun before a tick (`until`) each ends by the end of the one under way, which was begun last.
 pub record Busy (time until tick : ℕ) (loading : Loading) (begun : List Loaded) : Type 0 where
@@ -167,7 +167,7 @@ busy-begins time tick d q x loading begun some-load-time quiet h =
           (λ i m. let b : getD (map loadTick begun) i 0 + time ≤ tick = ended i m in omega arith) (omega arith));
       last = λ left′ q′ x′ e.
           one-under (λ l r y. Last time (tick + l + 1) r y (begun ++ (loaded tick d q x ∷ []))) (time - 1) q x left′ q′ x′
-          (record { before = begun; tick = tick; draw = d; is-last = refl; ends = omega arith; ended = ended }) e;
+          (record { earlier = begun; tick = tick; draw = d; is-last = refl; ends = omega arith; ended = ended }) e;
     }
 
 busy-passes : (time tick : ℕ) (loading : Loading) (begun : List Loaded) → Busy time (tick + 1) tick loading begun

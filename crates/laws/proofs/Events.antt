@@ -57,7 +57,8 @@ pub bad-tick-low : (least t q x : ℕ) (l : List Event) → t ≤ last-tick → 
 unfolding firstBadTick
 bad-tick-low least t q x l h low = rw (le-ltb last-tick t h, lt-ltb t least low)
 
-pub bad-tick-further : (least t q x : ℕ) (l : List Event) → t ≤ last-tick → least ≤ t → firstBadTick least (event t q x ∷ l) ≡ suc (firstBadTick (t + 1) l)
+pub bad-tick-further : (least t q x : ℕ) (l : List Event) → t ≤ last-tick → least ≤ t
+    → firstBadTick least (event t q x ∷ l) ≡ suc (firstBadTick (t + 1) l)
 unfolding firstBadTick
 bad-tick-further least t q x l h high = rw (le-ltb last-tick t h, le-ltb t least high)
 

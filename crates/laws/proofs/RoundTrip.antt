@@ -56,7 +56,8 @@ abbrev pub Byte : ℕ → Type 0
 Byte b = b < 256
 
 -- A head and an event have the same form: a number of four bytes, a byte, a number of two.
-seven-bytes : (t q x : ℕ) → t < 4294967296 → q < 256 → x < 65536 → (l : List ℕ) → Every Byte l → Every Byte (bytes32 t ++ (q ∷ bytes16 x) ++ l)
+seven-bytes : (t q x : ℕ) → t < 4294967296 → q < 256 → x < 65536 → (l : List ℕ) → Every Byte l
+    → Every Byte (bytes32 t ++ (q ∷ bytes16 x) ++ l)
 seven-bytes t q x ht hq hx l rest =
     one {a = t / 16777216} (omega arith)
     (one {a = t / 65536 % 256} (omega arith)

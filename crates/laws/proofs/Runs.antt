@@ -50,7 +50,8 @@ module _ (job : Job) (rule : Rule) where
   on-the-way m n s s′ e = then-going (run job rule m s) (run job rule n) s′ (sym (run-then m n s) ∙ e)
 
   -- Once all draws are made, more ticks change nothing.
-  pub run-longer : (t u : ℕ) (s s′ : State) → t ≤ u → run job rule t s ≡ going s′ → finished (s′ .rest) ≡ true → run job rule u s ≡ going s′
+  pub run-longer : (t u : ℕ) (s s′ : State) → t ≤ u → run job rule t s ≡ going s′ → finished (s′ .rest) ≡ true
+      → run job rule u s ≡ going s′
   run-longer t u s s′ h e f =
       let split : t + (u - t) ≡ u = omega arith in
       rw (← split, run-then t (u - t) s, e) (run-finished (u - t) s′ f)

@@ -107,7 +107,8 @@ pub idle-if-none : (loading : Loading) → ((left q x : ℕ) → loading ≡ Und
 idle-if-none Idle none = refl
 idle-if-none (Under left q x) none = absurd (none left q x refl)
 
-pub one-under : (P : ℕ → ℕ → ℕ → Type 0) (left q x left′ q′ x′ : ℕ) → P left q x → Under left q x ≡ Under left′ q′ x′ → P left′ q′ x′
+pub one-under : (P : ℕ → ℕ → ℕ → Type 0) (left q x left′ q′ x′ : ℕ) → P left q x → Under left q x ≡ Under left′ q′ x′
+    → P left′ q′ x′
 one-under P left q x left′ q′ x′ p e =
     let e₁ : left ≡ left′ = cc in
     let e₂ : q ≡ q′ = cc in

@@ -57,7 +57,8 @@ module _ (job : Job) (proper : Proper job) where
       record { to = to; symbol = symbol; quiet = quiet; missed = ltb-true _ _ missed; far = leb-true _ _ far }
 
   -- Where the draw itself is missing, what goes out cannot be drawn before it, so a load is asked for.
-  asks-at-miss : (s : State) → 0 < length (s .rest) → s .loading ≡ Idle → stands (awaited s) (s .slots) ≡ false → aggressive job .asks s ≡ NoLoad → ⊥
+  asks-at-miss : (s : State) → 0 < length (s .rest) → s .loading ≡ Idle → stands (awaited s) (s .slots) ≡ false
+      → aggressive job .asks s ≡ NoLoad → ⊥
   asks-at-miss s more quiet missed e =
       let now : first s ≡ 0 = missing-now (s .slots) (s .rest) more missed in
       let test : wanting s ≡ false = asked-none (wanting s) (chosen s) (getD (s .rest) (first s) 0) e in

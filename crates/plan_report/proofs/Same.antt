@@ -16,7 +16,8 @@ same-self (x ∷ a) = rw (eq-eqb x x refl, same-self a)
 not-true : {A : Type 0} → false ≡ true → A
 not-true e = let z : _≡_ {A = ℕ} 0 1 = cc in absurd (omega arith)
 
-by-first : (x y : ℕ) (a b : List ℕ) (t : Bool) → eqb x y ≡ t → (sameBytes a b ≡ true → a ≡ b) → (eqb x y && sameBytes a b) ≡ true → x ∷ a ≡ y ∷ b
+by-first : (x y : ℕ) (a b : List ℕ) (t : Bool) → eqb x y ≡ t → (sameBytes a b ≡ true → a ≡ b) → (eqb x y && sameBytes a b) ≡ true
+    → x ∷ a ≡ y ∷ b
 by-first x y a b true first later e = rw (eqb-true x y first, later (rw first at e))
 by-first x y a b false first later e = not-true (rw first at e)
 

@@ -148,7 +148,8 @@ walking-first asked rule held d starts fresh =
 
 module _ (job : Job) (rule : Rule) where
   -- Each load that is begun is counted.
-  listed-kept : (s s′ : State) → 0 < length (s .rest) → length (s .begun) ≡ s .loads → tick job rule s ≡ going s′ → length (s′ .begun) ≡ s′ .loads
+  listed-kept : (s s′ : State) → 0 < length (s .rest) → length (s .begun) ≡ s .loads → tick job rule s ≡ going s′
+      → length (s′ .begun) ≡ s′ .loads
   listed-kept s s′ more e ticked =
       tick-kept job rule _ _ (λ z. length (z .begun) ≡ z .loads) (λ z. length (z .begun) ≡ z .loads)
       (record {
@@ -184,7 +185,8 @@ module _ (job : Job) (rule : Rule) where
         -- Otherwise it goes on, after the waits that follow the tick.
         module _ (went : r .number ≡ 0) (later : Display)
             (rested : Rested (LoadUnderWay (r .display)) last-tick (r .on_record .happening) (r .display) later)
-            (still : (m : ℕ) → LoadUnderWay (r .display) m → (j : ℕ) → j < m → Quiet job rule held′ (onward d (r .on_record) h) (passed j (r .display))) where
+            (still : (m : ℕ) → LoadUnderWay (r .display) m → (j : ℕ) → j < m
+                → Quiet job rule held′ (onward d (r .on_record) h) (passed j (r .display))) where
           leads-on : going (view held′ (onward d (r .on_record) h) (r .display)) ≡ tick job rule (view held h d)
           leads-on = rw (eq-eqb (r .number) 0 went) at (ticks .run h (w .along .rest))
 

@@ -17,7 +17,8 @@ use ghost.Atoms.{Atoms, sem}
 use contract.Lifetimes.{Lfts}
 use contract.Monad.{Fun, fact}
 use contract.Running.{givenOf, tables, tablesOf}
-use types.Kit.{Given, ‵, raw, _⊛_, ⋆, some, later, _$_, _∵_, !, qed, by, move, use1, use2, split, join, pick, fsplit, fjoin, suffices, frame, await, done}
+use types.Kit.{Given, ‵, raw, _⊛_, ⋆, some, later, _$_, _∵_, !, qed, by, move, use1, use2, split, join, pick, fsplit, fjoin, suffices, frame,
+    await, done}
 use types.Run.{look, init, forget, stop, from, load, and-then, no-more, land, returns, enter, alloc1, alloc0, params1, pass1, pass0, free1, free0}
 use sound.WpLaws.{FmC, fmOf, WpFn-mono}
 use denote.RattleType.{RattleType, owns}
@@ -73,7 +74,8 @@ module _ {M : Type 1} (𝓤 : URA M) (H : Heap 𝓤) (A : Atoms 𝓤) (mem : Mem
   abbrev Here : Contract 𝓤
   Here = tripleOf 𝓤 H A here.signature (here.spec 𝓤 H A mem run)
 
-module _ {M : Type 1} (𝓤 : URA M) (H : Heap 𝓤) (A : Atoms 𝓤) (W : Given 𝓤 H A) (mem : Memory → SProp 𝓤) (run : Routine → Fun 𝓤) (κ : Lft) (q : Share)
+module _ {M : Type 1} (𝓤 : URA M) (H : Heap 𝓤) (A : Atoms 𝓤) (W : Given 𝓤 H A) (mem : Memory → SProp 𝓤)
+    (run : Routine → Fun 𝓤) (κ : Lft) (q : Share)
     (s : RefT (List ℕ)) (n : ℕ) (ok : n < 2 ^ 64) where
   -- the machine value that s has
   abbrev v : Val
@@ -100,31 +102,38 @@ module _ {M : Type 1} (𝓤 : URA M) (H : Heap 𝓤) (A : Atoms 𝓤) (W : Given
   abbrev to-placed : Placed 𝓤 H A mem run .Ghost
   to-placed = (((κ, tt), (q, tt), tt, (s, (n, tt)), at), tt)
 
-  goes-placed : ent 𝓤 (onEntry 𝓤 H A event-from.signature (κ, tt) (q, tt) (s, (n, tt)) at) (sep 𝓤 (Placed 𝓤 H A mem run .pre to-placed) (sem 𝓤 H A Own))
+  goes-placed : ent 𝓤 (onEntry 𝓤 H A event-from.signature (κ, tt) (q, tt) (s, (n, tt)) at) (sep 𝓤 (Placed 𝓤 H A mem run .pre to-placed)
+      (sem 𝓤 H A Own))
   goes-placed =
       qed W ((‵ (flft κ q) ⊛ ‵ ftrue) ∷ ‵ (owns (ShrSlice (named 0) κ u8 ∷ usize ∷ []) (s, (n, tt)) at) ∷ []) ∵
       move ! (1 ∷ []) $ fsplit ! $ use1 W (‵ Own ⊛ ‵ Own) (shr-slice-copy 𝓤 H A W (named 0) κ u8 .twice s (v ∷ [])) $ split ! $
       move ! (0 ∷ 2 ∷ []) $ fjoin ! $ move ! (2 ∷ 0 ∷ []) $
       use2 W (raw (Placed 𝓤 H A mem run .pre to-placed))
-      (qed W ((‵ (flft κ q) ⊛ ‵ ftrue) ∷ ‵ (owns (ShrSlice (named 0) κ u8 ∷ usize ∷ []) (s, (n, tt)) at) ∷ []) ∵ join ! $ frame ! $ done !) $ frame ! $ done !
+      (qed W ((‵ (flft κ q) ⊛ ‵ ftrue) ∷ ‵ (owns (ShrSlice (named 0) κ u8 ∷ usize ∷ []) (s, (n, tt)) at) ∷ []) ∵ join ! $ frame !
+          $ done !) $ frame ! $ done !
 
-  placed-said : (r : Walk) → ent 𝓤 (ensured 𝓤 H A placed.ended (placed.clauses 𝓤 H A mem run) (κ, tt) (s, (n, tt)) tt r) (fact 𝓤 ((r .list ≡ s) × (r .at ≡ n)))
+  placed-said : (r : Walk) → ent 𝓤 (ensured 𝓤 H A placed.ended (placed.clauses 𝓤 H A mem run) (κ, tt) (s, (n, tt)) tt r) (fact 𝓤
+      ((r .list ≡ s) × (r .at ≡ n)))
   placed-said r = exE 𝓤 _ (λ ws. snd∗ 𝓤 (sem 𝓤 H A (lasts placed.ended (κ, tt) (s, (n, tt)) ws)) (fact 𝓤 ((r .list ≡ s) × (r .at ≡ n))))
 
   -- the call of `next`, at the struct r with the machine value u
   abbrev to-here : Walk → Val → Here 𝓤 H A mem run .Ghost
   to-here r u = (((κ, tt), (q, tt), tt, (r, tt), (u ∷ [], tt)), tt)
 
-  goes-here : (r : Walk) (u : Val) → ent 𝓤 (⋆ 𝓤 H A (‵ (B (κ, tt) .own r (u ∷ [])) ∷ (‵ (flft κ q) ⊛ ‵ ftrue) ∷ [])) (Here 𝓤 H A mem run .pre (to-here r u))
+  goes-here : (r : Walk) (u : Val) → ent 𝓤 (⋆ 𝓤 H A (‵ (B (κ, tt) .own r (u ∷ [])) ∷ (‵ (flft κ q) ⊛ ‵ ftrue) ∷ []))
+      (Here 𝓤 H A mem run .pre (to-here r u))
   goes-here r u =
-      qed W (‵ (B (κ, tt) .own r (u ∷ [])) ∷ (‵ (flft κ q) ⊛ ‵ ftrue) ∷ []) ∵ nothing ! $ move ! (1 ∷ 0 ∷ []) $ fjoin ! $ move ! (1 ∷ 0 ∷ []) $
+      qed W (‵ (B (κ, tt) .own r (u ∷ [])) ∷ (‵ (flft κ q) ⊛ ‵ ftrue) ∷ []) ∵ nothing ! $ move ! (1 ∷ 0 ∷ []) $ fjoin !
+          $ move ! (1 ∷ 0 ∷ []) $
       join ! $ frame ! $ done !
 
   here-said : (r : Walk) (t : EventReading) → ent 𝓤 (ensured 𝓤 H A here.ended (here.clauses 𝓤 H A mem run) (κ, tt) (r, tt) tt t)
       (fact 𝓤 (t ≡ readEvent (drop (r .at) (now (r .list)))))
-  here-said r t = exE 𝓤 _ (λ ws. snd∗ 𝓤 (sem 𝓤 H A (lasts here.ended (κ, tt) (r, tt) ws)) (fact 𝓤 (t ≡ readEvent (drop (r .at) (now (r .list))))))
+  here-said r t = exE 𝓤 _ (λ ws. snd∗ 𝓤 (sem 𝓤 H A (lasts here.ended (κ, tt) (r, tt) ws)) (fact 𝓤 (t
+      ≡ readEvent (drop (r .at) (now (r .list))))))
 
-  exits : (t : EventReading) (u : Val) → t ≡ found → ent 𝓤 (⋆ 𝓤 H A (‵ (S.the-row .own t (u ∷ [])) ∷ (‵ (flft κ q) ⊛ ‵ ftrue) ∷ ‵ Own ∷ [])) (Post u)
+  exits : (t : EventReading) (u : Val) → t ≡ found
+      → ent 𝓤 (⋆ 𝓤 H A (‵ (S.the-row .own t (u ∷ [])) ∷ (‵ (flft κ q) ⊛ ‵ ftrue) ∷ ‵ Own ∷ [])) (Post u)
   exits t u e =
       qed W (‵ (S.the-row .own t (u ∷ [])) ∷ (‵ (flft κ q) ⊛ ‵ ftrue) ∷ ‵ Own ∷ []) ∵
       suffices ! _ (ends-at 𝓤 H A event-from.ended stayed (event-from.clauses 𝓤 H A mem run) W (((κ, tt), (q, tt), tt, (s, (n, tt)), at), tt) u t
@@ -172,10 +181,12 @@ module _ {M : Type 1} (𝓤 : URA M) (H : Heap 𝓤) (A : Atoms 𝓤) (W : Given
   event-from-walks C Λ fm known-placed known-here =
       walked 𝓤 H A event-from.ended stayed (event-from.clauses 𝓤 H A mem run) (WpFn 𝓤 H C Λ code.function) (λ κs. (slice-vals, (uint-vals w64, tt)))
       (λ κs. (shr-slice-tells (named 0) (κs .0) u8, (uint-tells w64, tt)))
-      (λ κs qs bounds a g are. via 𝓤 _ (fst∗ 𝓤 _ (emp 𝓤)) (walk 𝓤 H A W mem run (κs .0) (qs .0) (a .0) (a .1 .0) (are .1 .0 .1) C Λ fm known-placed
+      (λ κs qs bounds a g are. via 𝓤 _ (fst∗ 𝓤 _ (emp 𝓤)) (walk 𝓤 H A W mem run (κs .0) (qs .0) (a .0) (a .1 .0)
+          (are .1 .0 .1) C Λ fm known-placed
       known-here (are .0)))
 
-event-from-meets : {M : Type 1} (𝓤 : URA M) (H : Heap 𝓤) (A : Atoms 𝓤) (W : Given 𝓤 H A) (mem : Memory → SProp 𝓤) (run : Routine → Fun 𝓤) (𝓣 : Tables 𝓤 H)
+event-from-meets : {M : Type 1} (𝓤 : URA M) (H : Heap 𝓤) (A : Atoms 𝓤) (W : Given 𝓤 H A) (mem : Memory → SProp 𝓤)
+    (run : Routine → Fun 𝓤) (𝓣 : Tables 𝓤 H)
     → Triple 𝓤 (𝓣 .C #sheet·placed) (Placed 𝓤 H A mem run) → Triple 𝓤 (𝓣 .C #sheet·here) (Here 𝓤 H A mem run)
     → Meets 𝓤 H A event-from.signature (WpFn 𝓤 H (𝓣 .C) (𝓣 .Λ) code.function) (event-from.spec 𝓤 H A mem run)
 event-from-meets 𝓤 H A W mem run 𝓣 known-placed known-here =
@@ -190,5 +201,7 @@ event-from-spec 𝓤 H 𝓜 𝓖 𝓡 =
     entered 𝓤 H (tripleOf 𝓤 H (𝓖 .A) event-from.signature (event-from.spec 𝓤 H (𝓖 .A) (𝓜 .mem) (𝓡 .run)))
     (tables 𝓤 H 𝓜 𝓡 code.env .C) (tables 𝓤 H 𝓜 𝓡 code.env .Λ) #sheet·event-from code.function (code.unfolded 𝓤 H 𝓜 𝓡)
     (event-from-meets 𝓤 H (𝓖 .A) (givenOf 𝓤 H 𝓜 𝓖) (𝓜 .mem) (𝓡 .run) (tablesOf 𝓤 H 𝓜 (tables 𝓤 H 𝓜 𝓡 code.env))
-    (cited 𝓤 H (Placed 𝓤 H (𝓖 .A) (𝓜 .mem) (𝓡 .run)) 𝓜 𝓡 code.env #sheet·placed placed-def.routine code.calls-sheet·walk·placed (placed-thm.met 𝓤 H 𝓜 𝓖 𝓡))
-    (cited 𝓤 H (Here 𝓤 H (𝓖 .A) (𝓜 .mem) (𝓡 .run)) 𝓜 𝓡 code.env #sheet·here here-def.routine code.calls-sheet·walk·here (here-thm.met 𝓤 H 𝓜 𝓖 𝓡)))
+    (cited 𝓤 H (Placed 𝓤 H (𝓖 .A) (𝓜 .mem)
+        (𝓡 .run)) 𝓜 𝓡 code.env #sheet·placed placed-def.routine code.calls-sheet·walk·placed (placed-thm.met 𝓤 H 𝓜 𝓖 𝓡))
+    (cited 𝓤 H (Here 𝓤 H (𝓖 .A) (𝓜 .mem) (𝓡 .run)) 𝓜 𝓡 code.env #sheet·here here-def.routine code.calls-sheet·walk·here
+        (here-thm.met 𝓤 H 𝓜 𝓖 𝓡)))
