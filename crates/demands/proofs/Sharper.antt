@@ -102,7 +102,9 @@ waits-under-way what plan taken t s after c ran more began waits =
     going-is-not-refused (d .last) 13 (after .next)
     (sym (d .ran)
     ∙ refused-on-the-way (jobOf what) rule last-tick
-    (λ last ended. let same : d .last ≡ last = let g : going (d .last) ≡ going last = sym (d .ran)
-        ∙ ended in cc in rw (← same) (ap finished (d .over)))
+    (λ last ended.
+    let ran : going (d .last) ≡ going last = sym (d .ran) ∙ ended in
+    let same : d .last ≡ last = cc in
+    rw (← same) (ap finished (d .over)))
     t s 13 (after .next) ran more (wait-stops (jobOf what) plan s after c began waits quiet)))
     (λ busy. busy)

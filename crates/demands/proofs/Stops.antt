@@ -159,8 +159,9 @@ module _ (job : Job) (events : List Event) (s : State) where
     where
       by-begun : (b : MaybeLoad) → asked (follow events) s ≡ b
           → (beginning job b (land s) ≡ refused n d)
-          ⊎ ((after : State) × (beginning job b (land s) ≡ going after) × (happened (happeningOf after) (follow events .done after) after
-              ≡ refused n d))
+          ⊎ ((after : State)
+          × (beginning job b (land s) ≡ going after)
+          × (happened (happeningOf after) (follow events .done after) after ≡ refused n d))
           → Refuses job events s n d
       by-begun NoLoad asks (inl now) = going-is-not-refused (land s) n d (unfold beginning in now)
       by-begun (Load q x) asks (inl now) = event-refused q x n d asks now

@@ -22,8 +22,13 @@ one-more (x ∷ l) t = ap (λ (r : List ℕ). bytes32 x ++ r) (one-more l t)
 -- What is written after what was written is written with it.
 grown : (b new to : List ℕ) (n : ℕ) → length b ≡ n → take n (lent b to) ++ new ++ drop (n + length new) (lent b to) ≡ lent (b ++ new) to
 grown b new to n e =
-    rw (take-at b (drop (length b) to) n e, ← e, drop-append-add b (drop (length b) to) (length new), drop-drop (length new)
-        (length b) to, length-append b new)
+    rw (
+      take-at b (drop (length b) to) n e,
+      ← e,
+      drop-append-add b (drop (length b) to) (length new),
+      drop-drop (length new) (length b) to,
+      length-append b new,
+    )
 
 module _ (from to : List ℕ) (i : ℕ) where
   front : i ≤ length from → length (tickBytes (take i from)) ≡ 4 * i

@@ -41,7 +41,7 @@ event-of-a-list list i good inside =
     let long′ : head-size ≤ length list = ltb-false _ _ long in
     let left : length (drop (event-at i) list) ≡ length list - event-at i = length-drop (event-at i) list in
     let enough : event-size ≤ length (drop (event-at i) list) =
-        last-event (length list) (countOf list) i (number32 list 0) _ left size′ whole′ long′ inside in
+    last-event (length list) (countOf list) i (number32 list 0) _ left size′ whole′ long′ inside in
     rw (le-ltb (length (drop (event-at i) list)) event-size enough)
   where
     last-event : (n m i stated left : ℕ) → left ≡ n - event-at i → stated ≡ 3 + event-size * m → stated ≡ n - 4 → head-size ≤ n → i < m

@@ -98,7 +98,7 @@ module _ (job : Job) (proper : Proper job) where
   opt-waits =
       let d : Done job (opt job) Rising = opt-done job proper in
       demand-waits job proper (λ s. furthest job (ahead s) (s .slots)) last-tick (d .last) (d .ran) (d .over)
-          ∙ ap (λ (n : ℕ). job .load-time * n) opt-count
+      ∙ ap (λ (n : ℕ). job .load-time * n) opt-count
 
   -- Conservative is never later than opt, with the same number of loads.
   pub conservative-no-later : (conservative-done job proper .last .tick ≤ opt-done job proper .last .tick)

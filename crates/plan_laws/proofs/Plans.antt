@@ -74,7 +74,7 @@ written-read l few =
 -- A list in order, checked as the bytes that are written for it, with places enough.
 written-checked : (asked : Call) (shape : Shape) (l : List Event) (ticks slots : ℕ) → readJob (asked .job) ≡ Taken shape → length l ≤ most-events
     → length (drawsOf asked) ≤ ticks → length (drawsOf asked) ≤ slots → Ruly 0 l
-        → checked asked (listBytes l) ticks slots ≡ follows (jobOf asked) l
+    → checked asked (listBytes l) ticks slots ≡ follows (jobOf asked) l
 written-checked asked shape l ticks slots taken few ticks-room slots-room ordered =
     checked-follows asked (listBytes l) ticks slots shape taken (written-read l few) ticks-room slots-room (rw (read-back l few .1) ordered)
     ∙ ap (follows (jobOf asked)) (read-back l few .1)

@@ -81,8 +81,8 @@ hoping-over : (n : ℕ) (rest slots : List ℕ) (loading : Loading) (loads : ℕ
 hoping-over n rest slots loading loads over (still more quiet unheld upto) = absurd (omega (arith, ap length over))
 hoping-over n rest slots loading loads over (began h) = h
 
-then-also : (r : Run) (f g : State → Run) (s′ : State) → then r f ≡ going s′ → ((z : State) → r ≡ going z → f z ≡ going s′
-    → g z ≡ going s′)
+then-also : (r : Run) (f g : State → Run) (s′ : State) → then r f ≡ going s′
+    → ((z : State) → r ≡ going z → f z ≡ going s′ → g z ≡ going s′)
     → then r g ≡ going s′
 then-also (going s) f g s′ e h = h s refl e
 then-also (refused number detail) f g s′ e h = e
