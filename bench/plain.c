@@ -16,7 +16,7 @@ struct event {
 };
 
 struct display {
-    uint32_t tick, next, waits, loads;
+    uint32_t tick, next, waits, loads, pause, longest; /* pause: the waits since the last draw */
     uint16_t held[MOST_SLOTS];
     int under_way;
     struct event load;
@@ -39,13 +39,13 @@ static void put_four(uint8_t *at, uint32_t number)
 
 static govahrin_answer refused(uint32_t number, uint32_t detail)
 {
-    govahrin_answer answer = {number, detail, 0, 0, 0};
+    govahrin_answer answer = {number, detail, 0, 0, 0, 0};
     return answer;
 }
 
 static govahrin_answer accepted(const struct display *display)
 {
-    govahrin_answer answer = {0, 0, display->tick, display->waits, display->loads};
+    govahrin_answer answer = {0, 0, display->tick, display->waits, display->loads, display->longest};
     return answer;
 }
 
@@ -110,7 +110,7 @@ static void write_event(uint8_t *list, uint32_t place, struct event event)
 static void start(struct display *display, const struct job *job)
 {
     uint32_t slot;
-    display->tick = display->next = display->waits = display->loads = 0;
+    display->tick = display->next = display->waits = display->loads = display->pause = display->longest = 0;
     display->under_way = 0;
     for (slot = 0; slot < job->slots; slot++) display->held[slot] = (uint16_t)starting_symbol(job, slot);
 }
@@ -148,10 +148,14 @@ static uint32_t begin(struct display *display, const struct job *job, struct eve
 static uint32_t draw_or_wait(struct display *display, const struct job *job)
 {
     uint32_t slot = slot_of(display, job, draw_symbol(job, display->next));
-    if (slot < job->slots)
+    if (slot < job->slots) {
         display->next++;
-    else
+        display->longest = display->pause > display->longest ? display->pause : display->longest;
+        display->pause = 0;
+    } else {
         display->waits++;
+        display->pause++;
+    }
     display->tick++;
     return slot;
 }

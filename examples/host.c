@@ -29,7 +29,8 @@ static void report(const char *what, govahrin_answer a)
     if (a.number)
         printf("%s: refused %u %u: %s\n", what, (unsigned)a.number, (unsigned)a.detail, govahrin_words(a.number));
     else
-        printf("%s: elapsed %u, waits %u, loads %u\n", what, (unsigned)a.elapsed, (unsigned)a.waits, (unsigned)a.loads);
+        printf("%s: elapsed %u, waits %u, loads %u, longest wait %u\n", what, (unsigned)a.elapsed, (unsigned)a.waits,
+               (unsigned)a.loads, (unsigned)a.longest);
 }
 
 /* A display knows slots, ticks and a list. It never looks at what it draws: that is why the list is checked first. */

@@ -75,9 +75,9 @@
 
 /* The version of the library and of this header. Until 1.0 the surface changes with the requests. */
 #define GOVAHRIN_VERSION_MAJOR 0
-#define GOVAHRIN_VERSION_MINOR 1
+#define GOVAHRIN_VERSION_MINOR 2
 #define GOVAHRIN_VERSION_PATCH 0
-#define GOVAHRIN_VERSION "0.1.0"
+#define GOVAHRIN_VERSION "0.2.0"
 
 #ifdef __cplusplus
 extern "C" {
@@ -91,6 +91,7 @@ typedef struct {
     uint32_t elapsed; /* ticks until all draws are done; always n + waits */
     uint32_t waits;   /* ticks in which nothing was drawn */
     uint32_t loads;   /* loads begun; one may still be under way at the end */
+    uint32_t longest; /* the longest single wait: the most waits between a draw and the draw before it, or the start */
 } govahrin_answer;
 
 /* The refusals. The first that applies is given: for a plan in the order 1 to 5, 6, 7, 15; for a check 1 to 5, 8, 7, 9,

@@ -36,8 +36,8 @@ function flush() {
 }
 
 $1 == "plan" && $8 <= most {
-    row("plan " bytes($2) " " $3 " " $4, numbers($6 "," $7 "," $8 "," $9 "," $10))
-    row("list " bytes($2) " " $3 " " $4, bytes($11))
+    row("plan " bytes($2) " " $3 " " $4, numbers($6 "," $7 "," $8 "," $9 "," $10 "," $11))
+    row("list " bytes($2) " " $3 " " $4, bytes($12))
     seen[$6]++
     if ($6 == 0) plans[$3]++
     used++
@@ -45,9 +45,9 @@ $1 == "plan" && $8 <= most {
 }
 
 $1 == "check" && $9 <= most {
-    row("check " bytes($2) " " bytes($3) " " $4 " " $5, numbers($7 "," $8 "," $9 "," $10 "," $11))
-    row("ticks " bytes($2) " " bytes($3) " " $4 " " $5, numbers($12))
-    row("slots " bytes($2) " " bytes($3) " " $4 " " $5, numbers($13))
+    row("check " bytes($2) " " bytes($3) " " $4 " " $5, numbers($7 "," $8 "," $9 "," $10 "," $11 "," $12))
+    row("ticks " bytes($2) " " bytes($3) " " $4 " " $5, numbers($13))
+    row("slots " bytes($2) " " bytes($3) " " $4 " " $5, numbers($14))
     seen[$7]++
     used++
     if (++held == 4) flush()

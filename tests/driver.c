@@ -96,8 +96,8 @@ static void print_numbers(const uint8_t *at, size_t count, size_t width)
 
 static void print_answer(govahrin_answer answer)
 {
-    printf("%u %u %u %u %u ", (unsigned)answer.number, (unsigned)answer.detail, (unsigned)answer.elapsed,
-           (unsigned)answer.waits, (unsigned)answer.loads);
+    printf("%u %u %u %u %u %u ", (unsigned)answer.number, (unsigned)answer.detail, (unsigned)answer.elapsed,
+           (unsigned)answer.waits, (unsigned)answer.loads, (unsigned)answer.longest);
 }
 
 static size_t draws(void) { return number(job.at + 8, 2); }

@@ -1,4 +1,4 @@
-// The rules of document 01 as plainly as they can be said in Rust: simple and slow, one tick at a time, every search a
+// The rules as plainly as they can be said in Rust: simple and slow, one tick at a time, every search a
 // scan from the front. Nothing here was taken from the library; it is what the library is compared with.
 
 pub const FREE: u16 = 65535;
@@ -42,6 +42,19 @@ pub struct Run {
     pub events: Vec<Event>,
     pub draw_ticks: Vec<u64>,
     pub draw_slots: Vec<usize>,
+}
+
+impl Run {
+    /// The longest single wait: the greatest gap between a draw tick and the tick after the draw before it, or tick 0.
+    pub fn longest(&self) -> u64 {
+        let mut longest = 0;
+        let mut from = 0;
+        for &tick in &self.draw_ticks {
+            longest = longest.max(tick - from);
+            from = tick + 1;
+        }
+        longest
+    }
 }
 
 fn number(bytes: &[u8]) -> usize {

@@ -23,11 +23,11 @@ fn joined<T: ToString>(numbers: &[T]) -> String {
 }
 
 fn refused(refusal: Refusal, rest: &str) -> String {
-    format!("{} {} 0 0 0 {rest}", refusal.number, refusal.detail)
+    format!("{} {} 0 0 0 0 {rest}", refusal.number, refusal.detail)
 }
 
 fn counts(run: &Run) -> String {
-    format!("0 0 {} {} {}", run.elapsed, run.waits, run.loads)
+    format!("0 0 {} {} {} {}", run.elapsed, run.waits, run.loads, run.longest())
 }
 
 pub fn plan_case(job: &[u8], plan: u32, room: usize) -> String {

@@ -1,10 +1,11 @@
-// Checks a load list against a job. Arguments: the files of the two. It prints `accepted`, elapsed, waits and loads, and then
-// a line for each draw, with its symbol, its tick and its slot; or `refused`, the number and the detail, and a line in words.
+// Checks a load list against a job. Arguments: the files of the two. It prints `accepted`, elapsed, waits, loads and the longest single
+// wait, and then a line for each draw, with its symbol, its tick and its slot; or `refused`, the number and the detail, and a line in words.
 use libc::STDERR_FILENO;
 use libc::STDOUT_FILENO;
 use report::say;
 use report::say_counts;
 use report::say_number;
+use rules::Answer;
 use rules::JobReading;
 
 // Each of these answers whether all of it was written; the first write that fails is the last that is tried.
@@ -39,6 +40,18 @@ fn print_refusal(number: u32, detail: u32) -> bool {
         && report::say_words(STDOUT_FILENO, number, detail)
 }
 
+fn print_counts(answer: Answer) -> bool {
+    say_counts(
+        STDOUT_FILENO,
+        b"accepted",
+        answer.elapsed,
+        answer.waits,
+        answer.loads,
+    )
+        && say_number(STDOUT_FILENO, answer.longest)
+        && say(STDOUT_FILENO, b"\n")
+}
+
 fn print_check(job: &[u8], list: &[u8]) -> bool {
     let mut ticks = [0u32; 4096];
     let mut slots = [0u8; 4096];
@@ -46,16 +59,7 @@ fn print_check(job: &[u8], list: &[u8]) -> bool {
     if answer.number != 0 {
         return print_refusal(answer.number, answer.detail);
     }
-    if !say_counts(
-        STDOUT_FILENO,
-        b"accepted",
-        answer.elapsed,
-        answer.waits,
-        answer.loads,
-    ) {
-        return false;
-    }
-    print_draws(job, &ticks, &slots)
+    print_counts(answer) && print_draws(job, &ticks, &slots)
 }
 
 // A job has at most 8,330 bytes and a list at most 28,679. One more of each is read, so that a longer one is refused by those bytes.

@@ -2,45 +2,37 @@
 use Prim.Native.Nat.{ℕ, _+_, _≤_, _<_}
 use native.Mathlib.Omega.{arith}
 use mathlib.Core.Path.{_≡_, sym, ap, _∙_}
-use mathlib.Core.List.{List, []}
+use mathlib.Core.List.{List}
 use lib.ListN.{length}
 use mathlib.Core.Bool.{true, false}
 use lib.Dec.{ltb}
 use borrow.Author.Tests.{lt-ltb, le-ltb}
 use Rattle.rules.specs.declared.Answer.{Answer}
-use Rattle.rules.specs.declared.Loading.the-variants.{Idle}
 use Rattle.rules.specs.declared.Shape.{Shape}
-use Rattle.rules.specs.Job.{Job, Call, shapeOf, startingSymbols, drawsOf, jobOf, most-load-time, most-draws}
+use Rattle.rules.specs.Job.{Job, Call, shapeOf, startingSymbols, jobOf, most-load-time, most-draws}
 use Rattle.rules.specs.LoadList.{Event}
-use Rattle.rules.specs.Display.{State, Run, going, refused, then, start, run}
+use Rattle.rules.specs.Display.{Run, going, refused, then, start, run}
 use Rattle.rules.specs.Refusals.{answerOf, closing, follow, follows, mostTicks}
 use Rattle.laws.specs.Limits.{Limits}
 use Rattle.laws.proofs.Symbols.{length-symbols}
 use Rattle.display.specs.declared.state.Display.{Display}
 use Rattle.display.specs.declared.tick.Ticked.{Ticked}
-use Rattle.display.specs.View.{History, view}
+use Rattle.display.specs.View.{History, atFirst, view}
+use Rattle.display.specs.Moves.{started}
 use Rattle.display.specs.Tick.{Room, Ticks}
-use Rattle.display.proofs.Going.{going-over, going-done, going-late, going-more, going-refused}
+use Rattle.display.proofs.Views.{starts-so}
+use Rattle.display.proofs.Going.{going-over, going-done, going-late, going-more, going-room, going-refused}
 use Rattle.checker.specs.declared.checked.Checked.{Checked}
 use Rattle.checker.specs.Follow.{Ended, Noted}
 use Rattle.checker.proofs.Walks.{Walking, walking-start}
 
--- Nothing is drawn and nothing begun.
-abbrev pub first : List ℕ → History
-first draws = record { rest = draws; made = []; begun = [] }
-
-startWith : List ℕ → List ℕ → State
-startWith draws slots =
-    record { tick = 0; next = 0; rest = draws; slots = slots; loading = Idle; waits = 0; loads = 0; made = []; begun = [] }
-
+-- The loop begins at the start of the rules.
 pub walking-first : (asked : Call) (events : List Event) (held : List ℕ) (d : Display) (ticks slots : List ℕ)
     → held ≡ startingSymbols (asked .job)
-    → d ≡ record { tick = 0; waits = 0; loads = 0; next = 0; remaining = 0; target = 0; incoming = 0 }
-    → Walking (jobOf asked) events held d ticks slots (first (drawsOf asked))
-unfolding startWith
+    → d ≡ started
+    → Walking (jobOf asked) events held d ticks slots (atFirst (jobOf asked))
 walking-first asked events held d ticks slots starts fresh =
-    walking-start (jobOf asked) events held d ticks slots (first (drawsOf asked))
-    (ap (view held (first (drawsOf asked))) fresh ∙ ap (startWith (drawsOf asked)) starts)
+    walking-start (jobOf asked) events held d ticks slots (atFirst (jobOf asked)) (starts-so (jobOf asked) held d starts fresh)
 
 -- The numbers of a job, as the code has them in its shape.
 module _ {asked : Call} {shape : Shape} (limits : Limits asked shape) where
@@ -118,8 +110,4 @@ module _ (job : Job) (events : List Event) (held : List ℕ) (d : Display) (tick
   -- The counters have room for a tick more.
   pub walking-room : job .load-time ≤ most-load-time → length (job .draws) ≤ most-draws → d .tick < mostTicks job
       → Room d × (d .loads < 4294967295)
-  walking-room short few early =
-      let waits′ : d .waits ≤ d .tick = w .along .waits in
-      let loads′ : d .loads ≤ d .tick = w .along .loads in
-      let next′ : d .next ≤ length (job .draws) = w .along .few in
-      (record { tick = omega arith; next = omega arith; waits = omega arith }, omega arith)
+  walking-room short few early = going-room job (follow events) (mostTicks job) held d h (w .along) early (omega arith) (omega arith)

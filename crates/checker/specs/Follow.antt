@@ -16,6 +16,7 @@ use Rattle.laws.specs.Limits.{Limits}
 use Rattle.sheet.specs.Size.{Sized}
 use Rattle.display.specs.View.{History, view}
 use Rattle.display.specs.Tick.{Room}
+use Rattle.display.specs.Still.{MayRest}
 use Rattle.display.specs.declared.state.Display.{Display}
 use Rattle.checker.specs.declared.checked.Checked.{Checked}
 
@@ -38,11 +39,10 @@ pub record NothingDue (events : List Event) (d : Display) (m : ℕ) : Type 0 whe
   pub before-end : d .remaining - m ≡ 0 → d .remaining ≡ 0
   pub event-left : 0 < m → d .remaining ≡ 0 → d .loads < length events
 
--- What the display after the waits asks for: a list of its size, and a display in time whose waits are among its ticks.
+-- What the display after the waits asks for: a list of its size, and a display from which a stretch of waits may start.
 pub record MayWait (list : List ℕ) (count : ℕ) (d : Display) (limit : ℕ) : Type 0 where
   pub sized : Sized count list
-  pub in-time : d .tick ≤ limit
-  pub waits : d .waits ≤ d .tick
+  pub rests : MayRest limit d
 
 -- A buffer with what a tick brings for the draw at a place: nothing for a wait.
 abbrev pub noted : Happening → (ℕ → ℕ) → ℕ → List ℕ → List ℕ

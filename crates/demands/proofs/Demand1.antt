@@ -17,7 +17,7 @@ use Rattle.rules.specs.Refusals.{jobTests, readJob, checked, shortPlan, planned
 use Rattle.plan_laws.proofs.Plans.{plan-done, planned-done}
 use Rattle.laws.proofs.Verdicts.{clear-of, clear-append, unless-going}
 use Rattle.laws.proofs.Jobs.{proper, clear-taken}
-use Rattle.demands.specs.Table.{Gives, planRows, Given}
+use Rattle.demands.specs.Table.{Gives, planRows, Given, NoCounts}
 use Rattle.demands.proofs.Tables.{lateTests, plan-is-tests, gives-met, met-gives}
 use Rattle.demands.proofs.Words.{plan-words}
 use Rattle.demands.proofs.Refusing.{Answers, refusal-is, answers-so, plan-found, check-given, given-check, never-late, plan-goes, check-goes}
@@ -92,13 +92,13 @@ plan-accepts asked plan room = (
 
 -- What a call answers, and what it leaves in lent memory.
 --     accepted    number 0 comes with detail 0
---     counts      a refusal brings no elapsed, no waits and no loads
+--     counts      a refusal brings no counts
 --     room        a refused plan leaves the room as it was
 --     ticks       a refused check leaves the buffer for ticks as it was, whether it holds ticks or, for a host in C, their bytes
 --     slots       and the buffer for slots
 pub record FullOrRefused (r : Run) : Type 0 where
   pub accepted : answerOf r .number ≡ 0 → answerOf r .detail ≡ 0
-  pub counts : (answerOf r .number ≡ 0 → ⊥) → (answerOf r .elapsed ≡ 0) × (answerOf r .waits ≡ 0) × (answerOf r .loads ≡ 0)
+  pub counts : (answerOf r .number ≡ 0 → ⊥) → NoCounts (answerOf r)
   pub room : (answerOf r .number ≡ 0 → ⊥) → (before : List ℕ) → lent (writtenBy r) before ≡ before
   pub ticks : (answerOf r .number ≡ 0 → ⊥) → (before : List ℕ)
       → (lent (ticksOf r) before ≡ before) × (lent (tickBytes (ticksOf r)) before ≡ before)
@@ -118,7 +118,7 @@ whole (going s) goes =
 whole (refused n d) goes =
     record {
       accepted = λ e. let (s, ran) = goes e in let z : _≡_ {A = ℕ} 0 1 = cc in absurd (omega arith);
-      counts = λ some. (refl, refl, refl);
+      counts = λ some. record { elapsed = refl; waits = refl; loads = refl; longest = refl };
       room = λ some before. refl;
       ticks = λ some before. (refl, refl);
       slots = λ some before. refl;

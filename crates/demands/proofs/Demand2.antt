@@ -46,7 +46,7 @@ pub record Checks (asked : Call) (plan room ticks slots : ℕ) : Type 0 where
   pub same-slots : slotsOf (checked asked (writtenBy (planned asked plan room)) ticks slots) ≡ slotsOf (planned asked plan room)
 
 -- Of a job that is accepted, each of the four plans with room lent answers 0, and its list, checked with room lent, is accepted with the
--- same elapsed, waits and loads and the same draws.
+-- same elapsed, waits, loads and longest wait and the same draws.
 pub plans-accepted : (asked : Call) (plan room ticks slots : ℕ) → readJob (asked .job) ≡ Taken (shapeOf (asked .job)) → plan ≤ last-plan
     → head-size + event-size * length (drawsOf asked) ≤ room → length (drawsOf asked) ≤ ticks → length (drawsOf asked) ≤ slots
     → Checks asked plan room ticks slots

@@ -224,11 +224,11 @@ pub right-is-reported : (asked : Call) (list : List ℕ) (tick-places slot-place
 right-is-reported asked list tick-places slot-places ticks slots answer r =
     let (s, e) = right-is-accepted asked list tick-places slot-places ticks slots answer r in
     let given = accepted-is-right asked list tick-places slot-places s e in
-    let (same-ticks, same-slots, elapsed, waits, loads) =
+    let (same-ticks, same-slots, elapsed, waits, loads, longest) =
     only-sheet (jobOf asked) (eventsOf list) _ _ ticks slots _ answer (given .sheet) (r .sheet) in
     let number = given .number ∙ sym (r .number) in
     let detail = given .detail ∙ sym (r .detail) in (
       same-ticks,
       same-slots,
-      λ i. record { number = number i; detail = detail i; elapsed = elapsed i; waits = waits i; loads = loads i },
+      λ i. record { number = number i; detail = detail i; elapsed = elapsed i; waits = waits i; loads = loads i; longest = longest i },
     )

@@ -1,5 +1,6 @@
 pub mod Holding
 pub mod Causes
+pub mod Pauses
 pub mod Witness
 pub mod Events
 pub mod Only

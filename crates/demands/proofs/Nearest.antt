@@ -40,12 +40,12 @@ abbrev listed : Run
 listed = checked sheet (listBytes (event 0 1 3 ∷ [])) 4 4
 
 -- The list is accepted, with eight ticks and one load, and from the furthest choice conservative is as good.
-one-load : (numbers (answerOf listed) ≡ accepts 8 4 1) × (numbers (answerOf (planOf (opt (jobOf sheet)))) ≡ accepts 8 4 1)
+one-load : (numbers (answerOf listed) ≡ accepts 8 4 1 4) × (numbers (answerOf (planOf (opt (jobOf sheet)))) ≡ accepts 8 4 1 4)
 unfolding checked symbolBytes run tick beginning happened place symbols doubled ranksFrom greatest eventsIn eventsBytes due firstBadTick
 one-load = (refl, refl)
 
 -- From the nearest choice it loads at every draw.
-four-loads : numbers (answerOf (planOf nearestOpt)) ≡ accepts 20 16 4
+four-loads : numbers (answerOf (planOf nearestOpt)) ≡ accepts 20 16 4 4
 unfolding least symbolBytes run tick beginning happened place symbols
 four-loads = refl
 

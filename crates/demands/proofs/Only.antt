@@ -10,8 +10,9 @@ use borrow.Author.Tests.{ltb-true, ltb-false}
 use Rattle.rules.specs.declared.Answer.{Answer}
 use Rattle.rules.specs.Job.{Job}
 use Rattle.rules.specs.LoadList.{Event}
+use Rattle.rules.specs.Plans.{greatest}
 use Rattle.laws.proofs.Cases.{by-test}
-use Rattle.demands.specs.Held.{DrawnAt, from, Sheet}
+use Rattle.demands.specs.Held.{DrawnAt, from, gaps, Sheet}
 
 -- A draw that is looked for from the same tick on is made at one tick and from one slot.
 module _ (job : Job) (events : List Event) (f x : ℕ) where
@@ -60,16 +61,20 @@ pub only-sheet : (job : Job) (events : List Event) (ticks slots ticks′ slots�
     × (answer .elapsed ≡ answer′ .elapsed)
     × (answer .waits ≡ answer′ .waits)
     × (answer .loads ≡ answer′ .loads)
+    × (answer .longest ≡ answer′ .longest)
 only-sheet job events ticks slots ticks′ slots′ answer answer′ sheet sheet′ =
     let n : ℕ = length (job .draws) in
     let alike : (i : ℕ) → i < n → (getD ticks i 0 ≡ getD ticks′ i 0) × (getD slots i 0 ≡ getD slots′ i 0) =
     drawn-alike job events n ticks slots ticks′ slots′ (sheet .drawn) (sheet′ .drawn) in
     let together : from ticks n ≡ from ticks′ n =
     looked-alike job events n ticks slots ticks′ slots′ (sheet .drawn) (sheet′ .drawn) n (omega arith) in
+    let same-ticks : ticks ≡ ticks′ =
+    ext-getD 0 ticks ticks′ (sheet .a-tick-each ∙ sym (sheet′ .a-tick-each)) (λ i h. alike i (rw (sheet .a-tick-each) at h) .0) in
     let elapsed : answer .elapsed ≡ answer′ .elapsed = sheet .elapsed ∙ together ∙ sym (sheet′ .elapsed) in (
-      ext-getD 0 ticks ticks′ (sheet .a-tick-each ∙ sym (sheet′ .a-tick-each)) (λ i h. alike i (rw (sheet .a-tick-each) at h) .0),
+      same-ticks,
       ext-getD 0 slots slots′ (sheet .a-slot-each ∙ sym (sheet′ .a-slot-each)) (λ i h. alike i (rw (sheet .a-slot-each) at h) .1),
       elapsed,
       omega arith,
       sheet .loads ∙ sym (sheet′ .loads),
+      sheet .longest ∙ ap (λ (l : List ℕ). greatest (gaps 0 l)) same-ticks ∙ sym (sheet′ .longest),
     )

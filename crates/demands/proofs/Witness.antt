@@ -24,6 +24,7 @@ use Rattle.laws.proofs.Counts.{CountedState, counted}
 use Rattle.laws.proofs.Along.{Ruly}
 use Rattle.laws.proofs.Checks.{Accepted, accepted}
 use Rattle.demands.specs.Held.{held, DrawnAt, from, Sheet}
+use Rattle.demands.proofs.Pauses.{longest-is}
 use Rattle.demands.proofs.Holding.{HoldingBetween, HoldingLanded, HoldingBegun, holding-moves, holding-start, shown}
 
 -- The first tick at which a draw is looked for does not change when a later draw is made.
@@ -188,4 +189,5 @@ sheet-right asked list ticks slots s e =
       elapsed = rw (← all) (w .over all);
       waits = omega arith;
       loads = a .all-begun;
+      longest = longest-is (jobOf asked) (follow (eventsOf list)) fuel s (a .ran);
     })

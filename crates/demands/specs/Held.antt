@@ -1,6 +1,6 @@
 -- What a slot holds at a tick, said from the load list alone, with no run of the display, and what a sheet of draw ticks and slots must
 -- be by that. A reader who does not trust the display's ticks can trust a sheet by this file.
-use Prim.Native.Nat.{ℕ, zero, suc, _+_, _<_, _≤_}
+use Prim.Native.Nat.{ℕ, zero, suc, _+_, _-_, _<_, _≤_}
 use mathlib.Core.Path.{_≡_, refl}
 use mathlib.Core.Bool.{cond, _&&_}
 use mathlib.Core.List.{List, [], _∷_, map}
@@ -9,6 +9,7 @@ use lib.Dec.{eqb, ltb, leb}
 use Rattle.rules.specs.declared.Answer.{Answer}
 use Rattle.rules.specs.Job.{Job, free}
 use Rattle.rules.specs.LoadList.{Event, event}
+use Rattle.rules.specs.Plans.{greatest}
 
 -- The last load into a slot: there was none, or it began at a tick and brings a symbol.
 pub data LastLoad : Type 0 where
@@ -51,11 +52,17 @@ abbrev pub from : List ℕ → ℕ → ℕ
 from ticks zero = 0
 from ticks (suc i) = getD ticks i 0 + 1
 
+-- The gap before each draw of a row of draw ticks: from the tick at which it is first looked for to its own. (Document 02, One)
+unfoldable pub gaps : ℕ → List ℕ → List ℕ
+gaps first [] = []
+gaps first (t ∷ later) = (t - first) ∷ gaps (t + 1) later
+
 -- A whole sheet as a check reports it: a tick and a slot to each draw, and the answer's counts.
 --     drawn      each draw is made at the first tick after the draw before it at which some slot holds its symbol
 --     elapsed    the ticks up to the last draw and its own, none where there is no draw
 --     waits      every other tick was a wait
 --     loads      every event was begun
+--     longest    the greatest gap between a draw tick and the tick after the draw before it, or tick 0
 pub record Sheet (job : Job) (events : List Event) (ticks slots : List ℕ) (answer : Answer) : Type 0 where
   pub a-tick-each : length ticks ≡ length (job .draws)
   pub a-slot-each : length slots ≡ length (job .draws)
@@ -64,6 +71,7 @@ pub record Sheet (job : Job) (events : List Event) (ticks slots : List ℕ) (ans
   pub elapsed : answer .elapsed ≡ from ticks (length (job .draws))
   pub waits : answer .waits + length (job .draws) ≡ answer .elapsed
   pub loads : answer .loads ≡ length events
+  pub longest : answer .longest ≡ greatest (gaps 0 ticks)
 
 -- How many loads of a list have ended on a sheet that took this many ticks: a load begun at tick t ends in tick t + F, if the sheet has that tick.
 unfoldable pub endedBy : ℕ → ℕ → List Event → ℕ
@@ -76,3 +84,8 @@ row-e : map (λ t. held (record { slots = 2; load-time = 4; starting = 1 ∷ 2 �
     ≡ 2 ∷ 2 ∷ free ∷ free ∷ free ∷ free ∷ 3 ∷ 3 ∷ []
 unfolding lastLoad
 row-e = refl
+
+-- Its draw ticks are 0, 1, 6 and 7, so the gap before the third draw is the longest.
+row-e-longest : (gaps 0 (0 ∷ 1 ∷ 6 ∷ 7 ∷ []) ≡ 0 ∷ 0 ∷ 4 ∷ 0 ∷ []) × (greatest (gaps 0 (0 ∷ 1 ∷ 6 ∷ 7 ∷ [])) ≡ 4)
+unfolding gaps greatest
+row-e-longest = (refl, refl)

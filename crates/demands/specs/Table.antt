@@ -6,6 +6,7 @@ use mathlib.Core.Bool.{true, false}
 use mathlib.Core.List.{List, [], _∷_, _++_}
 use mathlib.Core.Logic.{_⊎_}
 use lib.ListN.{length, getD, drop}
+use Rattle.rules.specs.declared.Answer.{Answer}
 use Rattle.rules.specs.declared.MaybeLoad.the-variants.{Load}
 use Rattle.rules.specs.declared.Shape.{Shape}
 use Rattle.rules.specs.Basics.{stands, number32}
@@ -28,6 +29,13 @@ plain number holds = row number (λ detail. (detail ≡ 0) × holds)
 unfoldable pub Gives : List Row → ℕ → ℕ → Type 0
 Gives [] n d = ⊥
 Gives (row number holds ∷ below) n d = ((number ≡ n) × holds d) ⊎ (((c : ℕ) → holds c → ⊥) × Gives below n d)
+
+-- What a refusal answers beside its number and its detail: every count is 0.
+pub record NoCounts (answer : Answer) : Type 0 where
+  pub elapsed : answer .elapsed ≡ 0
+  pub waits : answer .waits ≡ 0
+  pub loads : answer .loads ≡ 0
+  pub longest : answer .longest ≡ 0
 
 -- No row of a table holds.
 unfoldable pub Quiet : List Row → Type 0

@@ -39,7 +39,7 @@ unfolding checked symbolBytes run tick beginning happened place symbols doubled 
 taken-earlier-still = refl
 
 -- A tick later the last submerged rock is drawn, and the list is accepted: seven ticks, three of them waits for the one load.
-taken-in-time : numbers (answerOf (loadedFrom 3)) ≡ accepts 7 3 1
+taken-in-time : numbers (answerOf (loadedFrom 3)) ≡ accepts 7 3 1 3
 unfolding checked symbolBytes run tick beginning happened place symbols doubled eventsIn eventsBytes due firstBadTick
 taken-in-time = refl
 

@@ -16,8 +16,8 @@ use Rattle.laws.proofs.Runs.{run-finished, run-unfinished}
 use Rattle.display.specs.declared.state.Display.{Display}
 use Rattle.display.specs.declared.tick.Ticked.{Ticked}
 use Rattle.display.specs.View.{History, view, historyBegun, historyMade, onward}
-use Rattle.display.specs.Tick.{Ticks, Counted, nextAfter, leads, missed}
-use Rattle.display.specs.Still.{passed, waiting, Rested}
+use Rattle.display.specs.Tick.{Room, Ticks, Counted, nextAfter, leads, missed}
+use Rattle.display.specs.Still.{passed, waiting, MayRest, Rested}
 use Rattle.display.proofs.Steps.{begun-rest}
 use Rattle.display.proofs.Stretches.{Quiet, stretch-run}
 
@@ -46,6 +46,7 @@ module _ (job : Job) (rule : Rule) (limit : ℕ) where
     pub rest : h .rest ≡ drop (d .next) (job .draws)
     pub in-time : d .tick ≤ limit
     pub waits : d .waits ≤ d .tick
+    pub pause : d .pause ≤ d .tick
     pub loads : d .loads ≤ d .tick
     pub few : d .next ≤ length (job .draws)
 
@@ -54,6 +55,7 @@ module _ (job : Job) (rule : Rule) (limit : ℕ) where
       let tick′ : d .tick ≡ 0 = ap (λ (s : State). s .tick) e in
       let next′ : d .next ≡ 0 = ap (λ (s : State). s .next) e in
       let waits′ : d .waits ≡ 0 = ap (λ (s : State). s .waits) e in
+      let pause′ : d .pause ≡ 0 = ap (λ (s : State). s .pause) e in
       let loads′ : d .loads ≡ 0 = ap (λ (s : State). s .loads) e in
       let all : limit - d .tick ≡ limit = omega arith in
       record {
@@ -61,6 +63,7 @@ module _ (job : Job) (rule : Rule) (limit : ℕ) where
         rest = ap (λ (s : State). s .rest) e ∙ rw next′;
         in-time = omega arith;
         waits = omega arith;
+        pause = omega arith;
         loads = omega arith;
         few = omega arith;
       }
@@ -76,6 +79,15 @@ module _ (job : Job) (rule : Rule) (limit : ℕ) where
     pub going-late : limit ≤ d .tick → run job rule limit (start job) ≡ going (view slots h d)
     unfolding run
     going-late late = let none : limit - d .tick ≡ 0 = omega arith in sym (g .whole) ∙ rw none
+
+    -- Where the limits are small enough, the counters have room for a tick more.
+    pub going-room : d .tick < limit → limit ≤ 4294967295 → length (job .draws) < 65535 → Room d × (d .loads < 4294967295)
+    going-room early ticks draws =
+        let few-waits : d .waits ≤ d .tick = g .waits in
+        let short-pause : d .pause ≤ d .tick = g .pause in
+        let few-loads : d .loads ≤ d .tick = g .loads in
+        let few-draws : d .next ≤ length (job .draws) = g .few in
+        (record { tick = omega arith; next = omega arith; waits = omega arith; pause = omega arith }, omega arith)
 
     module _ (within : d .next < length (job .draws)) where
       pub going-more : finished (h .rest) ≡ false
@@ -93,6 +105,17 @@ module _ (job : Job) (rule : Rule) (limit : ℕ) where
 
         pub going-refused : (r .number ≡ 0 → ⊥) → run job rule limit (start job) ≡ refused (r .number) (r .detail)
         going-refused some = ticks-on (refused (r .number) (r .detail)) (rw (ne-eqb (r .number) 0 some))
+
+        -- A tick that was not refused may be followed by a stretch of waits.
+        pub going-rests : r .number ≡ 0 → MayRest limit (r .display)
+        going-rests went =
+            let counts : Counted 1 (r .on_record .happening) d (r .display) = ticks .counts went in
+            let later : r .display .tick ≡ d .tick + 1 = counts .tick in
+            let more-waits : r .display .waits ≤ d .waits + 1 = counts .waits in
+            let more-pause : r .display .pause ≤ d .pause + 1 = counts .pause in
+            let few-waits : d .waits ≤ d .tick = g .waits in
+            let short-pause : d .pause ≤ d .tick = g .pause in
+            record { in-time = omega arith; waits = omega arith; pause = omega arith }
 
         module _ (went : r .number ≡ 0) (quiet : ℕ → Type 0) (e : Display)
             (rested : Rested quiet limit (r .on_record .happening) (r .display) e)
@@ -136,11 +159,12 @@ module _ (job : Job) (rule : Rule) (limit : ℕ) where
           pub going-on : Going slots′ e h′
           going-on =
               let m : ℕ = rested .many in
+              let may : MayRest limit (r .display) = going-rests went in
+              let few-waits : r .display .waits ≤ r .display .tick = may .waits in
+              let short-pause : r .display .pause ≤ r .display .tick = may .pause in
               let later : r .display .tick ≡ d .tick + 1 = counts .tick in
-              let more-waits : r .display .waits ≤ d .waits + 1 = counts .waits in
               let more-loads : r .display .loads ≤ d .loads + 1 = counts .loads in
               let fits : r .display .tick + m ≤ limit = rested .in-time in
-              let few-waits : d .waits ≤ d .tick = g .waits in
               let few-loads : d .loads ≤ d .tick = g .loads in
               rw (rested .passes)
               (record {
@@ -148,6 +172,7 @@ module _ (job : Job) (rule : Rule) (limit : ℕ) where
                 rest = rest′;
                 in-time = fits;
                 waits = omega arith;
+                pause = omega arith;
                 loads = omega arith;
                 few = rw (counts .next) (next-within (r .on_record .happening) (d .next) (length (job .draws)) within);
               })

@@ -17,6 +17,7 @@ pub record LandKeeps (d l : Display) : Type 0 where
   pub tick : l .tick ≡ d .tick
   pub next : l .next ≡ d .next
   pub waits : l .waits ≡ d .waits
+  pub pause : l .pause ≡ d .pause
   pub loads : l .loads ≡ d .loads
 
 -- Beginning what is asked for changes the slots, the load under way and the number of loads alone.
@@ -24,6 +25,7 @@ pub record BeginKeeps (l b : Display) : Type 0 where
   pub tick : b .tick ≡ l .tick
   pub next : b .next ≡ l .next
   pub waits : b .waits ≡ l .waits
+  pub pause : b .pause ≡ l .pause
   pub loads : b .loads ≤ l .loads + 1
 
 -- A move is the same whatever is beside the display, so it is looked at with nothing there.
@@ -37,6 +39,7 @@ land-keeps slots slots₁ d l lands =
       tick = ap (λ (s : State). s .tick) same;
       next = ap (λ (s : State). s .next) same;
       waits = ap (λ (s : State). s .waits) same;
+      pause = ap (λ (s : State). s .pause) same;
       loads = ap (λ (s : State). s .loads) same;
     }
 
@@ -50,6 +53,7 @@ begin-keeps job NoLoad slots₁ slots₂ l b begins =
       tick = ap (λ (s : State). s .tick) same;
       next = ap (λ (s : State). s .next) same;
       waits = ap (λ (s : State). s .waits) same;
+      pause = ap (λ (s : State). s .pause) same;
       loads = omega arith;
     }
 begin-keeps job (Load q x) slots₁ slots₂ l b begins =
@@ -59,15 +63,16 @@ begin-keeps job (Load q x) slots₁ slots₂ l b begins =
       tick = ap (λ (s : State). s .tick) same;
       next = ap (λ (s : State). s .next) same;
       waits = ap (λ (s : State). s .waits) same;
+      pause = ap (λ (s : State). s .pause) same;
       loads = omega arith;
     }
 
 -- So the counters have as much room after these moves as before.
 pub room-landed : {d l : Display} → LandKeeps d l → Room d → Room l
-room-landed {d} {l} kept room = record { tick = omega arith; next = omega arith; waits = omega arith }
+room-landed {d} {l} kept room = record { tick = omega arith; next = omega arith; waits = omega arith; pause = omega arith }
 
 pub room-begun : {l b : Display} → BeginKeeps l b → Room l → Room b
-room-begun {l} {b} kept room = record { tick = omega arith; next = omega arith; waits = omega arith }
+room-begun {l} {b} kept room = record { tick = omega arith; next = omega arith; waits = omega arith; pause = omega arith }
 
 -- The counters over a whole tick: landing, beginning, then the draw or the wait.
 pub tick-counts : {happening : Happening} {d l b r : Display} → LandKeeps d l → BeginKeeps l b → Counted 0 happening b r → Counted 1 happening d r
@@ -76,5 +81,6 @@ tick-counts {happening} landed begun counts =
       tick = omega arith;
       next = counts .next ∙ ap (nextAfter happening) (begun .next ∙ landed .next);
       waits = omega arith;
+      pause = omega arith;
       loads = omega arith;
     }

@@ -31,10 +31,11 @@ pub rested-none : (quiet : ℕ → Type 0) (limit : ℕ) (happening : Happening)
 rested-none quiet limit happening d early still =
     let ticks : d .tick + 0 ≡ d .tick = omega arith in
     let waits : d .waits + 0 ≡ d .waits = omega arith in
+    let pause : d .pause + 0 ≡ d .pause = omega arith in
     let until : d .remaining - 0 ≡ d .remaining = omega arith in
     record {
       many = 0;
-      passes = rw (ticks, waits, until);
+      passes = rw (ticks, waits, pause, until);
       in-time = omega arith;
       after-wait = λ some. absurd (omega arith);
       still = still;
@@ -59,8 +60,9 @@ module _ (job : Job) (rule : Rule) where
     none-further d =
         let ticks : d .tick + 0 ≡ d .tick = omega arith in
         let waits : d .waits + 0 ≡ d .waits = omega arith in
+        let pause : d .pause + 0 ≡ d .pause = omega arith in
         let until : d .remaining - 0 ≡ d .remaining = omega arith in
-        rw (ticks, waits, until)
+        rw (ticks, waits, pause, until)
 
     -- No ticks at all lead nowhere, whatever is awaited.
     no-stretch : (t : ℕ) (d : Display) → run job rule (0 + t) (view slots h d) ≡ run job rule t (view slots h (passed 0 d))
@@ -79,8 +81,9 @@ module _ (job : Job) (rule : Rule) where
       one-further m d =
           let ticks : d .tick + m + 1 ≡ d .tick + suc m = omega arith in
           let waits : d .waits + m + 1 ≡ d .waits + suc m = omega arith in
+          let pause : d .pause + m + 1 ≡ d .pause + suc m = omega arith in
           let until : d .remaining - m - 1 ≡ d .remaining - suc m = omega arith in
-          rw (ticks, waits, until)
+          rw (ticks, waits, pause, until)
 
       still-run : (m t : ℕ) (d : Display) → ((j : ℕ) → j < m → Quiet (passed j d))
           → run job rule (m + t) (view slots h d) ≡ run job rule t (view slots h (passed m d))

@@ -33,8 +33,8 @@ moved-view slots d (Draw q) h = refl
 moved-view slots d (Wait cause) h = refl
 
 moved-counts : (d : Display) (hp : Happening) → Counted 0 hp d (movedOn hp d)
-moved-counts d (Draw q) = record { tick = refl; next = refl; waits = omega arith; loads = omega arith }
-moved-counts d (Wait cause) = record { tick = refl; next = refl; waits = omega arith; loads = omega arith }
+moved-counts d (Draw q) = record { tick = refl; next = refl; waits = omega arith; pause = omega arith; loads = omega arith }
+moved-counts d (Wait cause) = record { tick = refl; next = refl; waits = omega arith; pause = omega arith; loads = omega arith }
 
 module _ (slots : List ℕ) (d : Display) (asked : MaybeLoad) (symbol : ℕ) (done : Bool) where
   abbrev here : Happening

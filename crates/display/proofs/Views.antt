@@ -9,11 +9,16 @@ use borrow.Author.Tests.{eqb-true, eqb-false}
 use Rattle.rules.specs.declared.MaybeLoad.{MaybeLoad}
 use Rattle.rules.specs.declared.MaybeLoad.the-variants.{Load, NoLoad}
 use Rattle.rules.specs.declared.Loading.the-variants.{Under}
-use Rattle.rules.specs.Display.{land, landedSlots, landedLoading}
+use Rattle.rules.specs.Job.{Job}
+use Rattle.rules.specs.Display.{start, land, landedSlots, landedLoading}
 use Rattle.display.specs.declared.state.Display.{Display}
 use Rattle.laws.proofs.Cases.{by-test}
-use Rattle.display.specs.View.{History, loadingOf, view, historyBegun, Lands, Begins}
-use Rattle.display.specs.Moves.{nearer, landedIn, begunWith, begunIn}
+use Rattle.display.specs.View.{History, atFirst, loadingOf, view, historyBegun, Lands, Begins}
+use Rattle.display.specs.Moves.{started, nearer, landedIn, begunWith, begunIn}
+
+-- The code's start, with the starting symbols in the slots, is the start of the rules.
+pub starts-so : (job : Job) (slots : List ℕ) (d : Display) → slots ≡ job .starting → d ≡ started → view slots (atFirst job) d ≡ start job
+starts-so job slots d starts is = rw (is, starts)
 
 -- Where no load ends, one under way comes a tick nearer to its end and no slot changes.
 nearer-loading : (until q x : ℕ) → (until ≡ 1 → ⊥) → loadingOf (until - 1) q x ≡ landedLoading (loadingOf until q x)

@@ -1,6 +1,6 @@
 -- The moves of the code's display, each as an equation: the display after it, and what the slots hold after it. What they are in the rules'
 -- state is a law to each (proofs/Views.antt, proofs/Ticks.antt).
-use Prim.Native.Nat.{ℕ, _+_, _-_}
+use Prim.Native.Nat.{ℕ, _+_, _-_, max}
 use mathlib.Core.Bool.{Bool, cond}
 use mathlib.Core.List.{List}
 use lib.ListN.{set}
@@ -16,6 +16,10 @@ use Rattle.display.specs.declared.state.Display.{Display}
 use Rattle.display.specs.declared.tick.Ticked.{Ticked}
 use Rattle.display.specs.View.{view, awaiting}
 
+-- The start: tick 0, with no load under way and every count at 0.
+abbrev pub started : Display
+started = record { tick = 0; waits = 0; loads = 0; pause = 0; longest = 0; next = 0; remaining = 0; target = 0; incoming = 0 }
+
 -- Step 1. A load under way is a tick nearer to its end, and one that ends puts its symbol into its slot.
 abbrev pub nearer : Display → Display
 nearer d =
@@ -23,6 +27,8 @@ nearer d =
       tick = d .tick;
       waits = d .waits;
       loads = d .loads;
+      pause = d .pause;
+      longest = d .longest;
       next = d .next;
       remaining = d .remaining - 1;
       target = d .target;
@@ -40,6 +46,8 @@ begunWith time (Load q x) d =
       tick = d .tick;
       waits = d .waits;
       loads = d .loads + 1;
+      pause = d .pause;
+      longest = d .longest;
       next = d .next;
       remaining = time;
       target = q;
@@ -57,6 +65,8 @@ afterDraw d =
       tick = d .tick + 1;
       waits = d .waits;
       loads = d .loads;
+      pause = 0;
+      longest = max (d .longest) (d .pause);
       next = d .next + 1;
       remaining = d .remaining;
       target = d .target;
@@ -69,6 +79,8 @@ afterWait d =
       tick = d .tick + 1;
       waits = d .waits + 1;
       loads = d .loads;
+      pause = d .pause + 1;
+      longest = d .longest;
       next = d .next;
       remaining = d .remaining;
       target = d .target;

@@ -13,6 +13,8 @@ passed m d =
       tick = d .tick + m;
       waits = d .waits + m;
       loads = d .loads;
+      pause = d .pause + m;
+      longest = d .longest;
       next = d .next;
       remaining = d .remaining - m;
       target = d .target;
@@ -22,6 +24,12 @@ passed m d =
 abbrev pub waiting : Happening → Bool
 waiting (Draw q) = false
 waiting (Wait cause) = true
+
+-- What a stretch of waits after a tick starts from: a tick that is in time, and no more waits than ticks, in all and since the last draw.
+pub record MayRest (limit : ℕ) (d : Display) : Type 0 where
+  pub in-time : d .tick ≤ limit
+  pub waits : d .waits ≤ d .tick
+  pub pause : d .pause ≤ d .tick
 
 -- A number of waits after a tick in which this happened: none after a draw, and no tick past the limit. `quiet` says of a number of ticks
 -- that nothing else comes up in them.

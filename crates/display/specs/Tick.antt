@@ -18,11 +18,12 @@ use Rattle.display.specs.declared.state.Display.{Display}
 use Rattle.display.specs.declared.tick.Ticked.{Ticked}
 use Rattle.display.specs.View.{History, view, awaiting, historyMade, onward}
 
--- The display's counters of ticks, draws and waits have room for one more.
+-- The display's counters of ticks, draws, waits and waits since the last draw have room for one more.
 pub record Room (d : Display) : Type 0 where
   pub tick : d .tick < 4294967295
   pub next : d .next < 65535
   pub waits : d .waits < 4294967295
+  pub pause : d .pause < 4294967295
 
 -- A load of this time may begin: it takes a tick at least, and the counter of loads has room for one more.
 pub record CanBegin (time : ℕ) (d : Display) : Type 0 where
@@ -49,8 +50,8 @@ abbrev pub leads : List ℕ → (TickRecord → History) → Ticked → Run
 leads slots beside r =
     cond (eqb (r .number) 0) (going (view slots (beside (r .on_record)) (r .display))) (refused (r .number) (r .detail))
 
--- What the counters say after a tick: one tick more, one draw more where there was a draw, at most one wait more, and no more loads than
--- `most` allows.
+-- What the counters say after a tick: one tick more, one draw more where there was a draw, at most one wait more, also since the last draw,
+-- and no more loads than `most` allows.
 abbrev pub nextAfter : Happening → ℕ → ℕ
 nextAfter (Draw q) next = next + 1
 nextAfter (Wait cause) next = next
@@ -59,6 +60,7 @@ pub record Counted (most : ℕ) (happening : Happening) (before later : Display)
   pub tick : later .tick ≡ before .tick + 1
   pub next : later .next ≡ nextAfter happening (before .next)
   pub waits : later .waits ≤ before .waits + 1
+  pub pause : later .pause ≤ before .pause + 1
   pub loads : later .loads ≤ before .loads + most
 
 -- Step 3 from d, with the awaited symbol, whatever is beside the display.

@@ -21,6 +21,10 @@ pub record History : Type 0 where
   pub made : List Drawn
   pub begun : List Loaded
 
+-- At the start all draws remain, and none is made and no load begun.
+abbrev pub atFirst : Job → History
+atFirst job = record { rest = job .draws; made = []; begun = [] }
+
 -- The loader, told from the ticks until its load ends: 0 where it is idle.
 abbrev pub loadingOf : ℕ → ℕ → ℕ → Loading
 loadingOf zero q x = Idle
@@ -36,6 +40,8 @@ view slots h d =
       loading = loadingOf (d .remaining) (d .target) (d .incoming);
       waits = d .waits;
       loads = d .loads;
+      pause = d .pause;
+      longest = d .longest;
       made = h .made;
       begun = h .begun;
     }

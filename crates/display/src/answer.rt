@@ -18,6 +18,7 @@ pub fn refusal(number: u32, detail: u32) -> Answer
         elapsed: 0,
         waits: 0,
         loads: 0,
+        longest: 0,
     }
 }
 
@@ -31,5 +32,6 @@ pub fn accepted(d: Display) -> Answer
         elapsed: d.tick,
         waits: d.waits,
         loads: d.loads,
+        longest: d.longest,
     }
 }

@@ -3,17 +3,19 @@
 use rules::FREE;
 use rules::MaybeLoad;
 ghost use mathlib.Core.Path.{_≡_};
-ghost use Prim.Native.Nat.{_≤_};
+ghost use Prim.Native.Nat.{_≤_, max};
 ghost use lib.ListN.{set};
-ghost use Rattle.display.specs.Moves.{nearer, landedIn, begunWith, begunIn, afterDraw, afterWait};
+ghost use Rattle.display.specs.Moves.{started, nearer, landedIn, begunWith, begunIn, afterDraw, afterWait};
 ghost use Rattle.display.specs.Tick.{Room, CanBegin};
 
-// The ticks passed, the waits and loads so far and the next draw number; then the load under way: in how many ticks it ends, or 0 where
-// none is under way, and its slot and its symbol.
+// The ticks passed, the waits and loads so far, the waits since the last draw and the most of them before one draw, and the next draw
+// number; then the load under way: in how many ticks it ends, or 0 where none is under way, and its slot and its symbol.
 pub struct Display {
     pub tick: u32,
     pub waits: u32,
     pub loads: u32,
+    pub pause: u32,
+    pub longest: u32,
     pub next: u16,
     pub remaining: u16,
     pub target: u16,
@@ -22,12 +24,14 @@ pub struct Display {
 
 // Tick 0, with no load under way.
 pub fn start() -> Display
-    ensures { λ r. ⌜ r ≡ record { tick = 0; waits = 0; loads = 0; next = 0; remaining = 0; target = 0; incoming = 0 } ⌝ }
+    ensures { λ r. ⌜ r ≡ started ⌝ }
 {
     Display {
         tick: 0,
         waits: 0,
         loads: 0,
+        pause: 0,
+        longest: 0,
         next: 0,
         remaining: 0,
         target: 0,
@@ -54,6 +58,8 @@ fn nearer(d: Display) -> Display
         tick: d.tick,
         waits: d.waits,
         loads: d.loads,
+        pause: d.pause,
+        longest: d.longest,
         next: d.next,
         remaining: d.remaining - 1,
         target: d.target,
@@ -90,11 +96,20 @@ pub fn begin(slots: &mut [u16], d: Display, time: u16, asked: MaybeLoad) -> Disp
         tick: d.tick,
         waits: d.waits,
         loads: d.loads + 1,
+        pause: d.pause,
+        longest: d.longest,
         next: d.next,
         remaining: time,
         target: slot as u16,
         incoming: symbol,
     }
+}
+
+// The larger of two numbers of waits.
+fn larger(a: u32, b: u32) -> u32
+    ensures { λ r. ⌜ r ≡ max a b ⌝ }
+{
+    if a < b { b } else { a }
 }
 
 // Step 3 of a tick that draws.
@@ -106,6 +121,8 @@ pub fn draw(d: Display) -> Display
         tick: d.tick + 1,
         waits: d.waits,
         loads: d.loads,
+        pause: 0,
+        longest: larger(d.longest, d.pause),
         next: d.next + 1,
         remaining: d.remaining,
         target: d.target,
@@ -122,6 +139,8 @@ pub fn wait(d: Display) -> Display
         tick: d.tick + 1,
         waits: d.waits + 1,
         loads: d.loads,
+        pause: d.pause + 1,
+        longest: d.longest,
         next: d.next,
         remaining: d.remaining,
         target: d.target,

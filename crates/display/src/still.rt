@@ -34,13 +34,15 @@ fn ticks_left(remaining: u16, ticks: u32) -> u16
 
 // The display after this number of waits.
 pub fn pass_waits(d: Display, ticks: u32) -> Display
-    requires { ⌜ (d .tick + ticks ≤ 4294967295) × (d .waits + ticks ≤ 4294967295) ⌝ }
+    requires { ⌜ (d .tick + ticks ≤ 4294967295) × (d .waits + ticks ≤ 4294967295) × (d .pause + ticks ≤ 4294967295) ⌝ }
     ensures { λ r. ⌜ r ≡ passed ticks d ⌝ }
 {
     Display {
         tick: d.tick + ticks,
         waits: d.waits + ticks,
         loads: d.loads,
+        pause: d.pause + ticks,
+        longest: d.longest,
         next: d.next,
         remaining: ticks_left(d.remaining, ticks),
         target: d.target,

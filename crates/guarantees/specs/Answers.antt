@@ -6,7 +6,7 @@ use lib.ListN.{length}
 use Rattle.rules.specs.declared.Answer.{Answer}
 use Rattle.rules.specs.Job.{call}
 use Rattle.rules.specs.Refusals.{lent, tickBytes}
-use Rattle.demands.specs.Table.{Gives, planRows, Given}
+use Rattle.demands.specs.Table.{Gives, planRows, Given, NoCounts}
 use Rattle.demands.specs.Fair.{Right}
 
 -- A plan is accepted with number 0 and detail 0; or it is refused with the number and detail that the table gives, without counts, and the
@@ -14,7 +14,7 @@ use Rattle.demands.specs.Fair.{Right}
 pub data PlanAnswers (job : List ℕ) (plan : ℕ) (room : List ℕ) (answer : Answer) (room′ : List ℕ) : Type 0 where
   accepted : answer .number ≡ 0 → answer .detail ≡ 0 → PlanAnswers job plan room answer room′
   refused : Gives (planRows (call job) plan (length room)) (answer .number) (answer .detail)
-      → (answer .elapsed ≡ 0) × (answer .waits ≡ 0) × (answer .loads ≡ 0)
+      → NoCounts answer
       → room′ ≡ room
       → PlanAnswers job plan room answer room′
 
@@ -22,7 +22,7 @@ pub data PlanAnswers (job : List ℕ) (plan : ℕ) (room : List ℕ) (answer : A
 pub data CheckAnswers (job list ticks slots : List ℕ) (answer : Answer) (ticks′ slots′ : List ℕ) : Type 0 where
   accepted : answer .number ≡ 0 → answer .detail ≡ 0 → CheckAnswers job list ticks slots answer ticks′ slots′
   refused : Given (call job) list (length ticks / 4) (length slots) (answer .number) (answer .detail)
-      → (answer .elapsed ≡ 0) × (answer .waits ≡ 0) × (answer .loads ≡ 0)
+      → NoCounts answer
       → (ticks′ ≡ ticks) × (slots′ ≡ slots)
       → CheckAnswers job list ticks slots answer ticks′ slots′
 

@@ -19,13 +19,14 @@ fn print_plan(job: &[u8], name: &[u8]) -> bool {
         written(report::say_refusal(STDOUT_FILENO, answer.number, answer.detail));
         return false;
     }
-    written(report::say_counts(
+    let counted = report::say_counts(
         STDOUT_FILENO,
         name,
         answer.elapsed,
         answer.waits,
         answer.loads,
-    ))
+    );
+    written(counted && report::say(STDOUT_FILENO, b"\n"))
 }
 
 // A job that one plan refuses all refuse, so the first refusal is the only line; and after a line that could not be written no other is tried.

@@ -9,7 +9,6 @@ use lib.Dec.{leb}
 use borrow.Author.Tests.{eq-eqb, le-leb, lt-leb}
 use Rattle.rules.specs.declared.MaybeLoad.{MaybeLoad}
 use Rattle.rules.specs.declared.MaybeLoad.the-variants.{NoLoad}
-use Rattle.rules.specs.declared.Loading.the-variants.{Idle}
 use Rattle.rules.specs.declared.Shape.{Shape}
 use Rattle.rules.specs.Basics.{number16}
 use Rattle.rules.specs.Job.{Job, Call, startingSymbols, drawsOf, draws-at, jobOf}
@@ -22,11 +21,11 @@ use Rattle.laws.proofs.Moves.{tick-kept, is-more}
 use Rattle.laws.specs.Limits.{Limits}
 use Rattle.display.specs.declared.state.Display.{Display}
 use Rattle.display.specs.declared.tick.Ticked.{Ticked}
-use Rattle.display.specs.View.{History, view, onward}
-use Rattle.display.specs.Moves.{nearer}
+use Rattle.display.specs.View.{History, atFirst, view, onward}
+use Rattle.display.specs.Moves.{started, nearer}
 use Rattle.display.specs.Tick.{Ticks}
 use Rattle.display.specs.Still.{passed, Rested}
-use Rattle.display.proofs.Views.{under-way}
+use Rattle.display.proofs.Views.{starts-so, under-way}
 use Rattle.display.proofs.Keeps.{LandKeeps}
 use Rattle.display.proofs.Landed.{landed-awaits}
 use Rattle.display.proofs.Stretches.{Quiet}
@@ -125,24 +124,16 @@ pub record MidRun (plan : ℕ) (asked : Call) (size orders : ℕ) (held loads : 
   pub walking : Walking (jobOf asked) (ruleOf (jobOf asked) plan) held d history
   pub row : RowKept plan asked orders (history .begun) (d .loads) loads
 
--- Nothing is drawn and nothing begun.
-abbrev pub before-all : Job → History
-before-all job = record { rest = job .draws; made = []; begun = [] }
-
-startWith : List ℕ → List ℕ → State
-startWith draws slots =
-    record { tick = 0; next = 0; rest = draws; slots = slots; loading = Idle; waits = 0; loads = 0; made = []; begun = [] }
-
+-- The loop begins at the start of the rules.
 pub walking-first : (asked : Call) (rule : Rule) (held : List ℕ) (d : Display)
     → held ≡ startingSymbols (asked .job)
-    → d ≡ record { tick = 0; waits = 0; loads = 0; next = 0; remaining = 0; target = 0; incoming = 0 }
-    → Walking (jobOf asked) rule held d (before-all (jobOf asked))
-unfolding startWith
+    → d ≡ started
+    → Walking (jobOf asked) rule held d (atFirst (jobOf asked))
 walking-first asked rule held d starts fresh =
     let job = jobOf asked in
-    let begins : view held (before-all job) d ≡ start job = ap (view held (before-all job)) fresh ∙ ap (startWith (job .draws)) starts in
+    let begins : view held (atFirst job) d ≡ start job = starts-so job held d starts fresh in
     record {
-      along = going-start job rule last-tick held d (before-all job) begins;
+      along = going-start job rule last-tick held d (atFirst job) begins;
       listed = sym (ap (λ (s : State). s .loads) begins);
     }
 
@@ -186,7 +177,7 @@ module _ (job : Job) (rule : Rule) where
         module _ (went : r .number ≡ 0) (later : Display)
             (rested : Rested (LoadUnderWay (r .display)) last-tick (r .on_record .happening) (r .display) later)
             (still : (m : ℕ) → LoadUnderWay (r .display) m → (j : ℕ) → j < m
-                → Quiet job rule held′ (onward d (r .on_record) h) (passed j (r .display))) where
+            → Quiet job rule held′ (onward d (r .on_record) h) (passed j (r .display))) where
           leads-on : going (view held′ (onward d (r .on_record) h) (r .display)) ≡ tick job rule (view held h d)
           leads-on = rw (eq-eqb (r .number) 0 went) at (ticks .run h (w .along .rest))
 

@@ -8,7 +8,7 @@ use Rattle.rules.specs.declared.Answer.{Answer}
 use Rattle.rules.specs.declared.JobReading.the-variants.{Taken}
 use Rattle.rules.specs.declared.Shape.{Shape}
 use Rattle.rules.specs.Job.{Call, startingSymbols, drawsOf, jobOf, most-draws}
-use Rattle.rules.specs.LoadList.{head-size, event-size, last-tick}
+use Rattle.rules.specs.LoadList.{head-size, event-size}
 use Rattle.rules.specs.Display.{Run, going, refused}
 use Rattle.rules.specs.Plans.{opt, runPlan, begunIn, ruleOf}
 use Rattle.rules.specs.Refusals.{readJob, inTime, answerOf, writtenBy, lent}
@@ -28,11 +28,6 @@ pub record BeforeTick (asked : Call) (shape : Shape) (row held : List ℕ) (d : 
   pub room : Room d
   pub few-loads : d .loads < 4294967295
   pub remains : d .next < shape .draws
-
--- What the waits after a tick start from: a tick that a list can name, and no more waits than ticks.
-pub record AfterTick (d : Display) : Type 0 where
-  pub in-time : d .tick ≤ last-tick
-  pub few-waits : d .waits ≤ d .tick
 
 -- A load is under way in each of the next m ticks.
 pub record LoadUnderWay (d : Display) (m : ℕ) : Type 0 where

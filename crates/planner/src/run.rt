@@ -21,9 +21,9 @@ ghost use Rattle.rules.specs.Job.{call, jobOf};
 ghost use Rattle.rules.specs.LoadList.{last-tick};
 ghost use Rattle.rules.specs.Plans.{asking};
 ghost use Rattle.display.specs.Tick.{Ticks};
-ghost use Rattle.display.specs.Still.{Rested};
+ghost use Rattle.display.specs.Still.{MayRest, Rested};
 ghost use Rattle.choice.specs.Asks.{asksBy};
-ghost use Rattle.planner.specs.Runs.{BeforeTick, AfterTick, LoadUnderWay, FromStart, Ended};
+ghost use Rattle.planner.specs.Runs.{BeforeTick, LoadUnderWay, FromStart, Ended};
 
 // One tick of a plan, while draws remain: land, begin what the plan asks for, then draw or wait.
 fn plan_tick(
@@ -52,7 +52,7 @@ fn plan_tick(
 // The display after the waits that follow a tick in which this happened. While a load is under way no plan asks for anything, so all
 // ticks up to the end of the load are passed over at once.
 fn after_waits(d: Display, happening: Happening) -> Display
-    requires { ⌜ AfterTick d ⌝ }
+    requires { ⌜ MayRest last-tick d ⌝ }
     ensures { λ r. ⌜ Rested (LoadUnderWay d) last-tick happening d r ⌝ }
 {
     match happening {

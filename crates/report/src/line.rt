@@ -14,11 +14,7 @@ pub fn say_refusal(to: i32, number: u32, detail: u32) -> bool {
     say(to, b"refused") && say_number(to, number) && say_number(to, detail) && say(to, b"\n")
 }
 
-// The counts of an accepted list or of a plan, after a word: elapsed, waits and loads.
+// The counts of an accepted list or of a plan, after a word: elapsed, waits and loads. What else is on the line is said after them.
 pub fn say_counts(to: i32, word: &[u8], elapsed: u32, waits: u32, loads: u32) -> bool {
-    say(to, word)
-        && say_number(to, elapsed)
-        && say_number(to, waits)
-        && say_number(to, loads)
-        && say(to, b"\n")
+    say(to, word) && say_number(to, elapsed) && say_number(to, waits) && say_number(to, loads)
 }

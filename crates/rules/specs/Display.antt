@@ -1,6 +1,7 @@
--- One tick of the display, and a run of ticks. (Document 01, "One tick of the display"; refusals 10 to 13 of "Refusal numbers")
+-- One tick of the display, and a run of ticks. (Document 01, "One tick of the display"; refusals 10 to 13 of "Refusal numbers"; the longest
+-- single wait: document 02, One)
 -- What is to begin in a tick is asked of a rule: a load list is one, and so is each plan. The display is the same for all.
-use Prim.Native.Nat.{ℕ, zero, suc, _+_, _-_}
+use Prim.Native.Nat.{ℕ, zero, suc, _+_, _-_, max}
 use mathlib.Core.Bool.{Bool, true, false, cond, not, _||_}
 use mathlib.Core.List.{List, [], _∷_, _++_}
 use lib.ListN.{getD, drop, set}
@@ -34,6 +35,8 @@ pub data Loaded : Type 0 where
 --     loading   the load under way
 --     waits     the ticks that were waits
 --     loads     the loads begun
+--     pause     the waits since the last draw, or since the start
+--     longest   the greatest number of waits between a draw made and the draw before it, or the start
 --     made      each draw made, in order
 --     begun     each load begun, in order
 pub record State : Type 0 where
@@ -44,6 +47,8 @@ pub record State : Type 0 where
   pub loading : Loading
   pub waits : ℕ
   pub loads : ℕ
+  pub pause : ℕ
+  pub longest : ℕ
   pub made : List Drawn
   pub begun : List Loaded
 
@@ -58,6 +63,8 @@ start job =
       loading = Idle;
       waits = 0;
       loads = 0;
+      pause = 0;
+      longest = 0;
       made = [];
       begun = [];
     }
@@ -98,6 +105,8 @@ land s =
       loading = landedLoading (s .loading);
       waits = s .waits;
       loads = s .loads;
+      pause = s .pause;
+      longest = s .longest;
       made = s .made;
       begun = s .begun;
     }
@@ -113,6 +122,8 @@ begin job q x s =
       loading = Under (job .load-time - 1) q x;
       waits = s .waits;
       loads = s .loads + 1;
+      pause = s .pause;
+      longest = s .longest;
       made = s .made;
       begun = s .begun ++ (loaded (s .tick) (s .next) q x ∷ []);
     }
@@ -156,6 +167,7 @@ abbrev pub happeningOf : State → Happening
 happeningOf s =
     cond (stands (awaited s) (s .slots)) (Draw (place (awaited s) (s .slots))) (Wait (causeOf (s .loading) (awaited s)))
 
+-- A draw ends the pause before it. The longest pause of all that a draw has ended is the longest single wait. (Document 02, One)
 abbrev pub draw : ℕ → State → State
 draw q s =
     record {
@@ -166,10 +178,13 @@ draw q s =
       loading = s .loading;
       waits = s .waits;
       loads = s .loads;
+      pause = 0;
+      longest = max (s .longest) (s .pause);
       made = s .made ++ (drawn (s .tick) q ∷ []);
       begun = s .begun;
     }
 
+-- A wait makes the pause before the next draw longer.
 abbrev pub wait : State → State
 wait s =
     record {
@@ -180,6 +195,8 @@ wait s =
       loading = s .loading;
       waits = s .waits + 1;
       loads = s .loads;
+      pause = s .pause + 1;
+      longest = s .longest;
       made = s .made;
       begun = s .begun;
     }

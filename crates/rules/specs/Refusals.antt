@@ -179,8 +179,9 @@ planned asked plan room =
 
 -- An accepted run answers number 0, detail 0 and its counts; a refused one its number and detail, and no counts.
 abbrev pub answerOf : Run → Answer
-answerOf (going s) = record { number = 0; detail = 0; elapsed = s .tick; waits = s .waits; loads = s .loads }
-answerOf (refused number detail) = record { number = number; detail = detail; elapsed = 0; waits = 0; loads = 0 }
+answerOf (going s) =
+    record { number = 0; detail = 0; elapsed = s .tick; waits = s .waits; loads = s .loads; longest = s .longest }
+answerOf (refused number detail) = record { number = number; detail = detail; elapsed = 0; waits = 0; loads = 0; longest = 0 }
 
 -- What lent memory holds later: at its front what was written, and all after that as it was.
 abbrev pub lent : List ℕ → List ℕ → List ℕ

@@ -10,7 +10,7 @@ use Rattle.rules.specs.Display.{run, tick, beginning, happened}
 use Rattle.rules.specs.Plans.{missing, ranksFrom, greatest}
 use Rattle.rules.specs.Refusals.{checked, planned, due, firstBadTick, doubled, jobTests, tickBytes}
 use Rattle.rules.specs.Worked.{Row, row, found, expected, accepts, refuses, planning, checking, symbolBytes, jobFields, jobBytes, listFields, loads, load}
-use Rattle.rules.specs.Worked.{job-a, job-b, job-c, job-d, recordsFound}
+use Rattle.rules.specs.Worked.{job-a, job-c, recordsFound}
 use Rattle.rules.specs.Worked.{plan, list, check, ticks, slots, check-for-c, room-later, ticks-later, slots-later, ticks-for-c-later}
 use Rattle.rules.specs.Worked.{plan-records, check-records, job-number, shape, symbols-in, limits, list-number, bad-tick, event-at, load-number}
 use Rattle.rules.specs.Worked.{number-two, number-four, head-put, event-put, put-number}
@@ -163,18 +163,18 @@ telling-checks =
     ∷ checking job-a (loads 2 (load 0 9 1 ++ load 0 0 2)) (refuses 9 1)
     ∷ checking job-a (loads 3 (load 0 0 1 ++ load 2 0 2 ++ load 1 0 3)) (refuses 9 2)
     -- 7: a place for each draw in both.
-    ∷ row (check job-a (loads 1 (load 2 1 3)) 4 4) (accepts 8 4 1)
+    ∷ row (check job-a (loads 1 (load 2 1 3)) 4 4) (accepts 8 4 1 4)
     ∷ row (check job-a (loads 1 (load 2 1 3)) 3 4) (refuses 7 0)
     ∷ row (check job-a (loads 1 (load 2 1 3)) 4 3) (refuses 7 0)
-    ∷ row (check job-none (loads 0 []) 0 0) (accepts 0 0 0)
+    ∷ row (check job-none (loads 0 []) 0 0) (accepts 0 0 0 0)
     -- The next load may begin at t + F, and not before: 10.
-    ∷ checking job-loads (loads 2 (load 0 0 4 ++ load 2 1 5)) (accepts 5 3 2)
+    ∷ checking job-loads (loads 2 (load 0 0 4 ++ load 2 1 5)) (accepts 5 3 2 2)
     ∷ row (ticks job-loads (loads 2 (load 0 0 4 ++ load 2 1 5)) 2 2) (2 ∷ 4 ∷ [])
     ∷ row (slots job-loads (loads 2 (load 0 0 4 ++ load 2 1 5)) 2 2) (0 ∷ 1 ∷ [])
     ∷ checking job-loads (loads 2 (load 0 0 4 ++ load 1 1 5)) (refuses 10 1)
-    ∷ checking (jobBytes 1 (1 ∷ 2 ∷ []) (3 ∷ 4 ∷ [])) (loads 2 (load 0 0 3 ++ load 1 1 4)) (accepts 3 1 2)
+    ∷ checking (jobBytes 1 (1 ∷ 2 ∷ []) (3 ∷ 4 ∷ [])) (loads 2 (load 0 0 3 ++ load 1 1 4)) (accepts 3 1 2 1)
     -- 11: slot k - 1 is taken, slot k is not.
-    ∷ checking job-loads (loads 2 (load 0 2 4 ++ load 2 0 5)) (accepts 5 3 2)
+    ∷ checking job-loads (loads 2 (load 0 2 4 ++ load 2 0 5)) (accepts 5 3 2 2)
     ∷ row (slots job-loads (loads 2 (load 0 2 4 ++ load 2 0 5)) 2 2) (2 ∷ 0 ∷ [])
     ∷ checking job-loads (loads 1 (load 0 3 4)) (refuses 11 0)
     ∷ checking job-loads (loads 2 (load 0 0 4 ++ load 2 3 5)) (refuses 11 1)
@@ -194,12 +194,12 @@ telling-checks =
     ∷ row (load-number job-loads 2 1) (12 ∷ [])
     -- What a slot held is gone at once, and may be loaded again.
     ∷ checking (jobBytes 3 (1 ∷ 2 ∷ []) (1 ∷ 1 ∷ [])) (loads 1 (load 1 0 3)) (refuses 13 1)
-    ∷ checking (jobBytes 1 (1 ∷ []) (2 ∷ 1 ∷ [])) (loads 2 (load 0 0 2 ++ load 2 0 1)) (accepts 4 2 2)
+    ∷ checking (jobBytes 1 (1 ∷ []) (2 ∷ 1 ∷ [])) (loads 2 (load 0 0 2 ++ load 2 0 1)) (accepts 4 2 2 1)
     -- A load that ends in this tick is in its slot before the next begins: here that one takes it out before it is drawn.
     ∷ checking job-a (loads 2 (load 2 1 3 ++ load 6 1 2)) (refuses 13 2)
     -- 13: with no event left, and not with one left; the detail is the draw. Waits with nothing under way count.
     ∷ checking job-a (loads 0 []) (refuses 13 2)
-    ∷ checking job-a (loads 1 (load 4 1 3)) (accepts 10 6 1)
+    ∷ checking job-a (loads 1 (load 4 1 3)) (accepts 10 6 1 6)
     ∷ row (ticks job-a (loads 1 (load 4 1 3)) 4 4) (0 ∷ 1 ∷ 8 ∷ 9 ∷ [])
     -- 14: the first event left, with and without draws. Time does not meet the events after the last draw.
     ∷ checking job-a (loads 2 (load 2 1 3 ++ load 8 0 2)) (refuses 14 1)
@@ -209,9 +209,38 @@ telling-checks =
     ∷ row (check job-none (loads 1 (load 8388607 0 6)) 0 0) (refuses 14 0)
     ∷ row (check job-none (loads 1 (load 8388608 0 6)) 0 0) (refuses 9 0)
     -- Symbols, ticks and load times of two bytes.
-    ∷ checking (jobBytes 1 (258 ∷ []) (258 ∷ 513 ∷ [])) (loads 1 (load 1 0 513)) (accepts 3 1 1)
-    ∷ checking (jobBytes 1 (65535 ∷ []) (7 ∷ [])) (loads 1 (load 258 0 7)) (accepts 260 259 1)
-    ∷ checking (jobBytes 258 (65535 ∷ []) (7 ∷ [])) (loads 1 (load 0 0 7)) (accepts 259 258 1)
+    ∷ checking (jobBytes 1 (258 ∷ []) (258 ∷ 513 ∷ [])) (loads 1 (load 1 0 513)) (accepts 3 1 1 1)
+    ∷ checking (jobBytes 1 (65535 ∷ []) (7 ∷ [])) (loads 1 (load 258 0 7)) (accepts 260 259 1 259)
+    ∷ checking (jobBytes 258 (65535 ∷ []) (7 ∷ [])) (loads 1 (load 0 0 7)) (accepts 259 258 1 258)
+    ∷ []
+
+-- ---- Document 02, One: the longest single wait
+
+-- Three slots, two ticks to a load, and three draws, each of a symbol that no slot holds.
+abbrev pub job-pauses : List ℕ
+job-pauses = jobBytes 2 (1 ∷ 2 ∷ 3 ∷ []) (4 ∷ 5 ∷ 6 ∷ [])
+
+-- The three loads, from these ticks on.
+abbrev pub pausing : (first second third : ℕ) (answer : List ℕ) → Row
+pausing t u v answer = checking job-pauses (loads 3 (load t 0 4 ++ load u 1 5 ++ load v 2 6)) answer
+
+unfoldable pub telling-pauses : List Row
+telling-pauses =
+    -- It is before the first draw, in the middle, before the last draw.
+    pausing 3 5 7 (accepts 10 7 3 5)
+    ∷ pausing 0 5 7 (accepts 10 7 3 4)
+    ∷ pausing 0 2 8 (accepts 11 8 3 5)
+    -- Two are equal; all are; there is no wait, and no draw.
+    ∷ pausing 1 3 7 (accepts 10 7 3 3)
+    ∷ checking job-loads (loads 2 (load 0 0 4 ++ load 3 1 5)) (accepts 6 4 2 2)
+    ∷ checking (jobBytes 1 (1 ∷ []) (1 ∷ 1 ∷ [])) (loads 0 []) (accepts 2 0 0 0)
+    ∷ row (check job-none (loads 0 []) 0 0) (accepts 0 0 0 0)
+    -- Waits with nothing under way count with those for a load, and those for another symbol's load with both.
+    ∷ checking (jobBytes 2 (1 ∷ 2 ∷ []) (3 ∷ [])) (loads 2 (load 1 0 4 ++ load 3 1 3)) (accepts 6 5 2 5)
+    -- A refusal after waits, and after draws that waited, has none.
+    ∷ pausing 0 1 2 (refuses 10 1)
+    ∷ pausing 0 5 6 (refuses 10 2)
+    ∷ checking job-pauses (loads 2 (load 0 0 4 ++ load 5 1 5)) (refuses 13 2)
     ∷ []
 
 -- ---- "One tick of the display": the record of each tick, five numbers to a tick
@@ -319,9 +348,9 @@ telling-plans =
     ∷ row (plan job-a 256 77) (refuses 6 0)
     ∷ row (plan (jobBytes 1 (5 ∷ 5 ∷ []) []) 4 77) (refuses 5 0)
     ∷ row (plan job-a 4 0) (refuses 6 0)
-    ∷ row (plan job-a 3 35) (accepts 12 8 2)
+    ∷ row (plan job-a 3 35) (accepts 12 8 2 4)
     ∷ row (plan job-a 0 34) (refuses 7 0)
-    ∷ row (plan job-none 0 7) (accepts 0 0 0)
+    ∷ row (plan job-none 0 7) (accepts 0 0 0 0)
     ∷ row (plan job-none 0 6) (refuses 7 0)
     ∷ listing job-none 1 (loads 0 [])
     -- Where several symbols are never drawn again, the lowest slot; for lru where several were not yet drawn.
@@ -342,33 +371,33 @@ telling-plans =
     -- Symbol 65534 is held as any other.
     ∷ listing (jobBytes 1 (5 ∷ 65534 ∷ []) (65534 ∷ 7 ∷ [])) 2 (loads 1 (load 1 0 7))
     -- Nothing to load.
-    ∷ row (plan (jobBytes 1 (1 ∷ []) (1 ∷ 1 ∷ [])) 0 21) (accepts 2 0 0)
-    ∷ row (plan (jobBytes 1 (1 ∷ []) (1 ∷ 1 ∷ [])) 1 21) (accepts 2 0 0)
+    ∷ row (plan (jobBytes 1 (1 ∷ []) (1 ∷ 1 ∷ [])) 0 21) (accepts 2 0 0 0)
+    ∷ row (plan (jobBytes 1 (1 ∷ []) (1 ∷ 1 ∷ [])) 1 21) (accepts 2 0 0 0)
     -- Aggressive and conservative: the draw of this very tick still counts for the symbol going out.
     ∷ listing (jobBytes 2 (1 ∷ []) (1 ∷ 2 ∷ [])) 0 (loads 1 (load 1 0 2))
     ∷ listing (jobBytes 2 (1 ∷ []) (1 ∷ 2 ∷ [])) 1 (loads 1 (load 1 0 2))
     -- Aggressive begins as soon as the symbol going out is not drawn before the miss.
     ∷ listing (jobBytes 1 (1 ∷ 2 ∷ []) (1 ∷ 2 ∷ 1 ∷ 3 ∷ [])) 0 (loads 1 (load 2 1 3))
-    ∷ planning (jobBytes 1 (1 ∷ 2 ∷ []) (1 ∷ 2 ∷ 1 ∷ 3 ∷ [])) 0 (accepts 4 0 1)
+    ∷ planning (jobBytes 1 (1 ∷ 2 ∷ []) (1 ∷ 2 ∷ 1 ∷ 3 ∷ [])) 0 (accepts 4 0 1 0)
     -- Conservative takes opt's choice at the miss, and not a symbol that is done earlier; its loads keep opt's order.
-    ∷ planning (jobBytes 2 (1 ∷ 2 ∷ []) (2 ∷ 1 ∷ 3 ∷ [])) 1 (accepts 5 2 1)
+    ∷ planning (jobBytes 2 (1 ∷ 2 ∷ []) (2 ∷ 1 ∷ 3 ∷ [])) 1 (accepts 5 2 1 2)
     ∷ listing (jobBytes 2 (1 ∷ 2 ∷ []) (2 ∷ 1 ∷ 3 ∷ [])) 1 (loads 1 (load 2 0 3))
     ∷ listing job-c 1 (loads 1 (load 2 1 5))
     ∷ listing (jobBytes 2 (1 ∷ 2 ∷ []) (1 ∷ 2 ∷ 3 ∷ 4 ∷ [])) 1 (loads 2 (load 1 0 3 ++ load 4 0 4))
-    ∷ planning (jobBytes 2 (1 ∷ 2 ∷ []) (1 ∷ 2 ∷ 3 ∷ 4 ∷ [])) 1 (accepts 7 3 2)
+    ∷ planning (jobBytes 2 (1 ∷ 2 ∷ []) (1 ∷ 2 ∷ 3 ∷ 4 ∷ [])) 1 (accepts 7 3 2 2)
     ∷ listing (jobBytes 2 (1 ∷ 2 ∷ []) (1 ∷ 2 ∷ 3 ∷ 4 ∷ [])) 2 (loads 2 (load 2 0 3 ++ load 5 0 4))
     -- Lru goes by the last draw of a symbol and not by its load; a symbol not yet drawn goes before a drawn one.
-    ∷ planning (jobBytes 1 (1 ∷ 2 ∷ []) (2 ∷ 1 ∷ 3 ∷ 1 ∷ [])) 3 (accepts 5 1 1)
+    ∷ planning (jobBytes 1 (1 ∷ 2 ∷ []) (2 ∷ 1 ∷ 3 ∷ 1 ∷ [])) 3 (accepts 5 1 1 1)
     ∷ listing (jobBytes 1 (1 ∷ 2 ∷ []) (2 ∷ 1 ∷ 3 ∷ 1 ∷ [])) 3 (loads 1 (load 2 1 3))
     ∷ listing (jobBytes 1 (1 ∷ 2 ∷ []) (1 ∷ 2 ∷ 1 ∷ 3 ∷ [])) 3 (loads 1 (load 3 1 3))
     ∷ listing (jobBytes 1 (1 ∷ 2 ∷ []) (1 ∷ 2 ∷ 3 ∷ 2 ∷ 3 ∷ 1 ∷ [])) 3 (loads 2 (load 2 0 3 ++ load 6 1 1))
     ∷ listing (jobBytes 3 (1 ∷ 2 ∷ []) (1 ∷ 2 ∷ 3 ∷ 1 ∷ 2 ∷ [])) 3 (loads 3 (load 2 0 3 ++ load 6 1 1 ++ load 10 0 2))
-    ∷ planning (jobBytes 3 (1 ∷ 2 ∷ []) (1 ∷ 2 ∷ 3 ∷ 1 ∷ 2 ∷ [])) 3 (accepts 14 9 3)
+    ∷ planning (jobBytes 3 (1 ∷ 2 ∷ []) (1 ∷ 2 ∷ 3 ∷ 1 ∷ 2 ∷ [])) 3 (accepts 14 9 3 3)
     ∷ listing (jobBytes 1 (1 ∷ 2 ∷ 3 ∷ []) (2 ∷ 4 ∷ [])) 3 (loads 1 (load 1 0 4))
     ∷ listing (jobBytes 1 (1 ∷ 2 ∷ 3 ∷ []) (1 ∷ 4 ∷ [])) 3 (loads 1 (load 1 1 4))
     ∷ listing (jobBytes 1 (1 ∷ 2 ∷ 3 ∷ []) (1 ∷ 2 ∷ 4 ∷ [])) 3 (loads 1 (load 2 2 4))
     -- A load time of two bytes, and ticks above 255 in a list.
-    ∷ planning (jobBytes 300 (1 ∷ []) (2 ∷ 1 ∷ [])) 2 (accepts 602 600 2)
+    ∷ planning (jobBytes 300 (1 ∷ []) (2 ∷ 1 ∷ [])) 2 (accepts 602 600 2 300)
     ∷ listing (jobBytes 300 (1 ∷ []) (2 ∷ 1 ∷ [])) 2 (loads 2 (load 0 0 2 ++ load 301 0 1))
     ∷ []
 
@@ -388,7 +417,7 @@ telling-memory =
     ∷ row (ticks-later job-a (loads 1 (load 1 0 3)) (filled 6 9) (filled 6 8)) (filled 6 9)
     ∷ row (slots-later job-a (loads 1 (load 1 0 3)) (filled 6 9) (filled 6 8)) (filled 6 8)
     -- For C each draw tick is four bytes, so 4n are needed.
-    ∷ row (check-for-c job-a (loads 1 (load 2 1 3)) 16 4) (accepts 8 4 1)
+    ∷ row (check-for-c job-a (loads 1 (load 2 1 3)) 16 4) (accepts 8 4 1 4)
     ∷ row (check-for-c job-a (loads 1 (load 2 1 3)) 15 4) (refuses 7 0)
     ∷ row (check-for-c job-a (loads 1 (load 2 1 3)) 16 3) (refuses 7 0)
     ∷ row (ticks-for-c-later job-a (loads 1 (load 2 1 3)) (filled 18 9) (filled 4 8))
@@ -413,6 +442,10 @@ told-apart-lists = refl
 pub told-apart-checks : map found telling-checks ≡ map expected telling-checks
 unfolding telling-checks symbolBytes checked run tick beginning happened place symbols doubled eventsIn due firstBadTick
 told-apart-checks = refl
+
+pub told-apart-pauses : map found telling-pauses ≡ map expected telling-pauses
+unfolding telling-pauses symbolBytes checked run tick beginning happened place symbols doubled eventsIn due firstBadTick
+told-apart-pauses = refl
 
 pub told-apart-records : map found telling-records ≡ map expected telling-records
 unfolding telling-records recordsFound symbolBytes run tick beginning happened place symbols missing ranksFrom greatest eventsIn due

@@ -74,7 +74,7 @@ load t q x = (0 ∷ t / 65536 ∷ t / 256 % 256 ∷ t % 256 ∷ q ∷ []) ++ two
 -- ---- Questions
 
 -- What can be asked of the definitions.
---     plan, check                     the answer: number, detail, elapsed, waits, loads
+--     plan, check                     the answer: number, detail, elapsed, waits, loads, longest
 --     list                            the bytes that a plan writes
 --     ticks, slots                    what a check writes: the draw ticks, the slots
 --     check-for-c                     the answer of a check for a host in C, with the bytes lent for ticks and for slots
@@ -115,7 +115,7 @@ pub data Row : Type 0 where
 -- ---- What is found, as numbers
 
 abbrev pub numbers : Answer → List ℕ
-numbers a = a .number ∷ a .detail ∷ a .elapsed ∷ a .waits ∷ a .loads ∷ []
+numbers a = a .number ∷ a .detail ∷ a .elapsed ∷ a .waits ∷ a .loads ∷ a .longest ∷ []
 
 abbrev pub truth : Bool → List ℕ
 truth b = cond b 1 0 ∷ []
@@ -205,11 +205,11 @@ abbrev pub expected : Row → List ℕ
 expected (row question answer) = answer
 
 -- Answers: an accepted call, and a refusal with its number and detail.
-abbrev pub accepts : (elapsed waits loads : ℕ) → List ℕ
-accepts elapsed waits loads = 0 ∷ 0 ∷ elapsed ∷ waits ∷ loads ∷ []
+abbrev pub accepts : (elapsed waits loads longest : ℕ) → List ℕ
+accepts elapsed waits loads longest = 0 ∷ 0 ∷ elapsed ∷ waits ∷ loads ∷ longest ∷ []
 
 abbrev pub refuses : (number detail : ℕ) → List ℕ
-refuses number detail = number ∷ detail ∷ 0 ∷ 0 ∷ 0 ∷ []
+refuses number detail = number ∷ detail ∷ 0 ∷ 0 ∷ 0 ∷ 0 ∷ []
 
 -- ---- Rows a to h
 
@@ -235,27 +235,27 @@ checking job l answer = row (check job l 10 10) answer
 -- Rows a to h, with the bytes of the two lists of job a and the draws of row e.
 unfoldable pub rows : List Row
 rows =
-    planning job-a 0 (accepts 10 6 2)
-    ∷ planning job-a 1 (accepts 8 4 1)
-    ∷ planning job-a 2 (accepts 8 4 1)
-    ∷ planning job-a 3 (accepts 12 8 2)
-    ∷ planning job-b 0 (accepts 7 3 1)
-    ∷ planning job-b 1 (accepts 7 3 1)
-    ∷ planning job-b 2 (accepts 8 4 1)
-    ∷ planning job-b 3 (accepts 8 4 1)
-    ∷ planning job-c 0 (accepts 8 2 2)
-    ∷ planning job-c 1 (accepts 7 1 1)
-    ∷ planning job-c 2 (accepts 9 3 1)
-    ∷ planning job-c 3 (accepts 12 6 2)
-    ∷ planning job-d 0 (accepts 3 1 1)
-    ∷ planning job-d 1 (accepts 3 1 1)
-    ∷ planning job-d 2 (accepts 3 1 1)
-    ∷ planning job-d 3 (accepts 3 1 1)
-    ∷ checking job-a (loads 1 (load 2 1 3)) (accepts 8 4 1)
+    planning job-a 0 (accepts 10 6 2 3)
+    ∷ planning job-a 1 (accepts 8 4 1 4)
+    ∷ planning job-a 2 (accepts 8 4 1 4)
+    ∷ planning job-a 3 (accepts 12 8 2 4)
+    ∷ planning job-b 0 (accepts 7 3 1 3)
+    ∷ planning job-b 1 (accepts 7 3 1 3)
+    ∷ planning job-b 2 (accepts 8 4 1 4)
+    ∷ planning job-b 3 (accepts 8 4 1 4)
+    ∷ planning job-c 0 (accepts 8 2 2 2)
+    ∷ planning job-c 1 (accepts 7 1 1 1)
+    ∷ planning job-c 2 (accepts 9 3 1 3)
+    ∷ planning job-c 3 (accepts 12 6 2 3)
+    ∷ planning job-d 0 (accepts 3 1 1 1)
+    ∷ planning job-d 1 (accepts 3 1 1 1)
+    ∷ planning job-d 2 (accepts 3 1 1 1)
+    ∷ planning job-d 3 (accepts 3 1 1 1)
+    ∷ checking job-a (loads 1 (load 2 1 3)) (accepts 8 4 1 4)
     ∷ row (ticks job-a (loads 1 (load 2 1 3)) 4 4) (0 ∷ 1 ∷ 6 ∷ 7 ∷ [])
     ∷ row (slots job-a (loads 1 (load 2 1 3)) 4 4) (0 ∷ 1 ∷ 1 ∷ 0 ∷ [])
     ∷ checking job-a (loads 1 (load 1 0 3)) (refuses 13 3)
-    ∷ checking job-a (loads 2 (load 2 1 3 ++ load 7 1 2)) (accepts 8 4 2)
+    ∷ checking job-a (loads 2 (load 2 1 3 ++ load 7 1 2)) (accepts 8 4 2 4)
     ∷ checking job-a (loads 2 (load 2 1 3 ++ load 5 0 2)) (refuses 10 1)
     ∷ row (list job-a 1 35) (0 ∷ 0 ∷ 0 ∷ 0x0A ∷ 1 ∷ 0 ∷ 1 ∷ 0 ∷ 0 ∷ 0 ∷ 2 ∷ 1 ∷ 0 ∷ 3 ∷ [])
     ∷ row (list job-a 0 35)

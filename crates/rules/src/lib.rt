@@ -80,4 +80,5 @@ pub struct Answer {
     pub elapsed: u32,
     pub waits: u32,
     pub loads: u32,
+    pub longest: u32,
 }

@@ -1,4 +1,4 @@
-// One case of a check: its name, the five numbers of the answer and, where the list is accepted, the tick and the slot of each draw.
+// One case of a check: its name, the six numbers of the answer and, where the list is accepted, the tick and the slot of each draw.
 use libc::STDOUT_FILENO;
 use report::say;
 use report::say_number;
@@ -12,6 +12,7 @@ pub fn say_answer(name: &[u8], answer: Answer) {
     say_number(STDOUT_FILENO, answer.elapsed);
     say_number(STDOUT_FILENO, answer.waits);
     say_number(STDOUT_FILENO, answer.loads);
+    say_number(STDOUT_FILENO, answer.longest);
 }
 
 fn say_ticks(draws: u16, ticks: &[u32; 4096]) {

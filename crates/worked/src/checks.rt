@@ -59,6 +59,29 @@ pub fn edges() {
     check_one(b"tick 8,388,608", late, 8388608, 0, 7);
 }
 
+// The longest single wait: two slots, two ticks to a load, and two draws, each of a symbol that no slot holds; then a job with no wait.
+pub fn pauses() {
+    let job = b"\x00\x00\x00\x0E\x01\x02\x00\x02\x00\x02\x00\x01\x00\x02\x00\x03\x00\x04";
+    check_two(
+        b"the longest wait before the first draw",
+        job,
+        event(3, 0, 3),
+        event(5, 1, 4),
+    );
+    check_two(
+        b"the longest wait before the last draw",
+        job,
+        event(0, 0, 3),
+        event(6, 1, 4),
+    );
+    check_two(b"two equal waits", job, event(0, 0, 3), event(3, 1, 4));
+    check_list(
+        b"no wait",
+        b"\x00\x00\x00\x0C\x01\x01\x00\x01\x00\x02\x00\x01\x00\x01\x00\x01",
+        &NO_EVENTS,
+    );
+}
+
 // Job a with one number changed.
 fn with_number(name: &[u8], at: u32, number: u16) {
     let job = changed(at, number);

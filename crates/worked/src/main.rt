@@ -1,5 +1,5 @@
-// The worked cases of document 01, built in: checks and plans of its rows, every edge that it names, a case for each refusal
-// number, and the largest job. Each is a line, and `stdout` has what every line must be.
+// The worked cases of document 01, built in: checks and plans of its rows, every edge that it names, where the longest wait can be, a case
+// for each refusal number, and the largest job. Each is a line, and `stdout` has what every line must be.
 mod check_case;
 mod checks;
 mod make;
@@ -9,6 +9,7 @@ mod plans;
 fn main() {
     checks::rows();
     checks::edges();
+    checks::pauses();
     checks::refused_jobs();
     checks::refused_lists();
     checks::refused_runs();

@@ -1,4 +1,4 @@
-// One case of a plan: its name, the five numbers of the answer and, where the job is planned, the length of the list in the room.
+// One case of a plan: its name, the six numbers of the answer and, where the job is planned, the length of the list in the room.
 use crate::check_case::say_answer;
 use libc::STDOUT_FILENO;
 use report::say;

@@ -31,7 +31,7 @@ returns : tie.Need-returns
 returns c =
     let s : tie.Start = search in
     let a = s .args in
-    rested-none _ (a .limit) (a .happening) (a .d) (s .pre .in-time) (still-none _ (a .d))
+    rested-none _ (a .limit) (a .happening) (a .d) (s .pre .rests .in-time) (still-none _ (a .d))
 
 returns-2 : tie.Need-returns-2
 returns-2 c =
@@ -43,7 +43,7 @@ returns-2 c =
     let m = still .still-ticks .result in
     let n = fewer .smaller .result in
     let least : n ≡ min (a .limit - a .d .tick) m = fewer .smaller .ensures in
-    let early : a .d .tick ≤ a .limit = s .pre .in-time in
+    let early : a .d .tick ≤ a .limit = s .pre .rests .in-time in
     let waits : tie.After-enum-told2 = search in
     record {
       many = n;

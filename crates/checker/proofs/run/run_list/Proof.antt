@@ -7,13 +7,14 @@ use lib.ListN.{length, drop}
 use borrow.Author.Needs.{needs}
 use Rattle.rules.specs.Job.{Call, call, Job, drawsOf, jobOf}
 use Rattle.rules.specs.LoadList.{Event, eventsIn, head-size}
-use Rattle.rules.specs.Refusals.{mostTicks}
+use Rattle.rules.specs.Refusals.{follow, mostTicks}
 use Rattle.rules.specs.declared.Shape.{Shape}
 use Rattle.laws.proofs.Events.{length-eventsIn}
-use Rattle.display.specs.View.{onward}
+use Rattle.display.specs.View.{atFirst, onward}
 use Rattle.display.specs.declared.state.Display.{Display}
+use Rattle.display.proofs.Going.{going-rests}
 use Rattle.laws.specs.Limits.{Limits}
-use Rattle.checker.proofs.Ends.{starting-size, limit-read, shown-out, shown-up, shown-refused, walking-room, first, walking-first}
+use Rattle.checker.proofs.Ends.{starting-size, limit-read, shown-out, shown-up, shown-refused, walking-room, walking-first}
 use Rattle.checker.proofs.Walks.{Walking, Turn, walked-on, noted-length}
 use Rattle.checker.proofs.run.run_list.Statement.{statement}
 use Rattle.checker.proofs.run.run_list.Tie as tie
@@ -52,7 +53,7 @@ loop-holds c =
       same-slots = refl;
       tick-places = refl;
       slot-places = refl;
-      history = first (drawsOf (call (a .job .now)));
+      history = atFirst (jobOf (call (a .job .now)));
       walking = walking-first (call (a .job .now)) (eventsIn (a .count) (drop head-size (a .list .now))) (a .held .now) (after .start .result)
           (a .ticks .now) (a .slots .now) (s .pre .starts) (after .start .ensures);
     }
@@ -218,18 +219,17 @@ module _ (p : tie.After-note Inv-loop μ-loop) where
   ticked : at-tick .follow-tick .result .display .tick ≡ at-loop at-tick .loop .d .tick + 1
   ticked = at-tick .follow-tick .ensures .counts unrefused .tick
 
-  waited : at-tick .follow-tick .result .display .waits ≤ at-loop at-tick .loop .d .waits + 1
-  waited = at-tick .follow-tick .ensures .counts unrefused .waits
-
 after-waits-requires : tie.Need-after-waits-requires Inv-loop μ-loop
 after-waits-requires c κs =
     let n : tie.After-note Inv-loop μ-loop = search in
-    let p = at-loop (at-tick n) in
-    let in-time = soon (at-tick n) in
-    let one-more = ticked n in
-    let waits = waited n in
-    let few : p .loop .d .waits ≤ p .loop .d .tick = walking p .along .waits in
-    record { sized = at-start p .pre .read .sized; in-time = omega arith; waits = omega arith }
+    let t = at-tick n in
+    let p = at-loop t in
+    record {
+      sized = at-start p .pre .read .sized;
+      rests = rw (← whole p) at
+          (going-rests (job p) (follow (events p)) (mostTicks (job p)) _ _ _ (walking p .along) (within t) (early t) _
+          (t .follow-tick .result) (t .follow-tick .ensures) (unrefused n));
+    }
 
 loop-less : tie.Need-loop-less Inv-loop μ-loop
 loop-less c =

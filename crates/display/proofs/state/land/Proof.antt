@@ -1,34 +1,19 @@
 -- `land` meets its contract: no load is under way, or one ends, or it comes nearer to its end.
-use Prim.Native.Nat.{ℕ, _-_}
+use Prim.Native.Nat.{_-_}
 use native.Mathlib.Omega.{arith}
-use mathlib.Core.Path.{_≡_, sym, ap}
+use mathlib.Core.Path.{_≡_}
 use borrow.Author.Needs.{needs}
 use borrow.Author.Tests.{eq-eqb, ne-eqb}
-use Rattle.display.specs.declared.state.Display.{Display}
 use Rattle.display.proofs.state.land.Statement.{statement}
 use Rattle.display.proofs.state.land.Tie as tie
 
--- The display with this many ticks until its load ends.
-ending : Display → ℕ → Display
-ending d left =
-    record {
-      tick = d .tick;
-      waits = d .waits;
-      loads = d .loads;
-      next = d .next;
-      remaining = left;
-      target = d .target;
-      incoming = d .incoming;
-    }
-
 returns : tie.Need-returns
-unfolding ending
 returns c =
     let s : tie.Start = search in
     let d = s .args .d in
     let idle : d .remaining ≡ 0 = search in
-    let same : d .remaining ≡ d .remaining - 1 = omega arith in
-    (ap (ending d) same, simp (ne-eqb (d .remaining) 1 (λ one. omega arith)))
+    let same : d .remaining - 1 ≡ d .remaining = omega arith in
+    (rw same, simp (ne-eqb (d .remaining) 1 (λ one. omega arith)))
 
 put-requires : tie.Need-put-requires
 put-requires c κs = search needs

@@ -1,5 +1,5 @@
 -- The loop keeps the run on its way and its loads noted. It is left where no draw remains, no tick is left, or a tick is refused.
-use Prim.Native.Nat.{ℕ, _+_, _-_, _<_, _≤_}
+use Prim.Native.Nat.{ℕ, _+_, _-_, _<_}
 use native.Mathlib.Omega.{arith}
 use mathlib.Core.Bool.{cond}
 use mathlib.Core.List.{List}
@@ -17,13 +17,14 @@ use Rattle.laws.specs.Limits.{Limits}
 use Rattle.laws.proofs.Jobs.{limits}
 use Rattle.laws.proofs.Symbols.{length-symbols}
 use Rattle.display.specs.Tick.{Ticks}
-use Rattle.display.specs.View.{view, onward, History}
+use Rattle.display.specs.View.{atFirst, view, onward, History}
 use Rattle.display.specs.declared.state.Display.{Display}
 use Rattle.display.specs.declared.tick.Ticked.{Ticked}
+use Rattle.display.proofs.Going.{going-room, going-rests}
 use Rattle.planner.specs.Runs.{Prepared, runOf}
 use Rattle.planner.proofs.LoadRow.{RowKept, row-start, row-on}
 use Rattle.planner.proofs.Planning.{ended}
-use Rattle.planner.proofs.Walks.{Walking, MidRun, before-all, walking-first, walking-on, calm, ruled, ends-over, ends-late, ends-refused}
+use Rattle.planner.proofs.Walks.{Walking, MidRun, walking-first, walking-on, calm, ruled, ends-over, ends-late, ends-refused}
 use Rattle.planner.proofs.run.run_plan.Statement.{statement}
 use Rattle.planner.proofs.run.run_plan.Tie as tie
 
@@ -45,7 +46,7 @@ loop-holds c =
     let ready = s .pre .prepared in
     record {
       same-size = refl;
-      history = before-all (jobOf asked);
+      history = atFirst (jobOf asked);
       walking = walking-first asked (ruleOf (jobOf asked) (a .plan)) (a .held .now) (after .start .result) (s .pre .starts) (after .start .ensures);
       row = rw (after .start .ensures) (row-start (a .plan) asked (a .orders) (a .loads .now) (ready .ordered) (ready .has-places .places));
     }
@@ -107,17 +108,17 @@ order-at-requires c κs =
 plan-tick-requires : tie.Need-plan-tick-requires Inv-loop μ-loop
 plan-tick-requires c κs =
     let p : tie.At-loop Inv-loop μ-loop = search in
-    let time = walking p .along .in-time in
-    let few-waits : d p .waits ≤ d p .tick = walking p .along .waits in
-    let few-loads : d p .loads ≤ d p .tick = walking p .along .loads in
+    let early : d p .tick < last-tick = search in
     let within : d p .next < shape p .draws = search in
     let most = within-limits p .few-draws in
+    let draws = many p in
+    let roomy = going-room (job p) (rule p) last-tick _ _ _ (walking p .along) early (omega arith) (omega arith) in
     record {
       limits = within-limits p;
       draws = prepared p .draws;
       size = size p;
-      room = record { tick = omega arith; next = omega arith; waits = omega arith };
-      few-loads = omega arith;
+      room = roomy .0;
+      few-loads = roomy .1;
       remains = within;
     }
 
@@ -166,21 +167,15 @@ module _ (p : tie.After-note Inv-loop μ-loop) where
   one-more : ticked at-tick .display .tick ≡ d (at-loop at-tick) .tick + 1
   one-more = at-tick .plan-tick .ensures .counts went .tick
 
-  waited : ticked at-tick .display .waits ≤ d (at-loop at-tick) .waits + 1
-  waited = at-tick .plan-tick .ensures .counts went .waits
-
 abbrev at-note : tie.After-later Inv-loop μ-loop → tie.After-note Inv-loop μ-loop
 at-note p = search
 
 after-waits-requires : tie.Need-after-waits-requires Inv-loop μ-loop
 after-waits-requires c κs =
     let n = at-note c in
-    let p = at-loop (at-tick n) in
-    let soon = early (at-tick n) in
-    let more = one-more n in
-    let waits = waited n in
-    let few : d p .waits ≤ d p .tick = walking p .along .waits in
-    record { in-time = omega arith; few-waits = omega arith }
+    let t = at-tick n in
+    let p = at-loop t in
+    going-rests (job p) (rule p) last-tick _ _ _ (walking p .along) (within t) (early t) _ (ticked t) (ticks t) (went n)
 
 loop-less : tie.Need-loop-less Inv-loop μ-loop
 loop-less c =
