@@ -9,14 +9,14 @@ function numbers(from, until,   i) {
 NR == 1 { refused = $1 == "refused" && numbers(2, 3) && $2 > 0; verdict = refused ? $0 : "accepted" }
 refused { wrong += NR > (what == "check" ? 2 : 1) || $0 == ""; next }
 what == "summary" { wrong += $1 != name[NR] || !numbers(2, 4) || $2 < $3; next }
-NR == 1 { wrong += $1 != "accepted" || !numbers(2, 4) || $2 != $3 + draws; elapsed = $2; tick = -1; next }
-{ wrong += !numbers(1, 4) || $1 != NR - 2 || $3 <= tick; tick = $3 }
+NR == 1 { wrong += $1 != "accepted" || !numbers(2, 5) || $2 != $3 + draws; elapsed = $2; longest = $5; tick = -1; next }
+{ wrong += !numbers(1, 4) || $1 != NR - 2 || $3 <= tick; gap = $3 - tick - 1; if (gap > greatest) greatest = gap; tick = $3 }
 
 BEGIN { split("aggressive conservative opt lru", name, " ") }
 END {
     if (refused) lines = what == "check" ? 2 : 1
     else if (what == "summary") lines = 4
-    else { lines = draws + 1; wrong += draws == "" || tick + 1 != elapsed }
+    else { lines = draws + 1; wrong += draws == "" || tick + 1 != elapsed || longest != greatest + 0 }
     if (wrong || NR != lines) exit 1
     print verdict
 }

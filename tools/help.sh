@@ -17,8 +17,8 @@ TEXT
 help_check() {
     cat <<'TEXT'
   govahrin check SHEET.job SHEET.list [--names FILE]
-      `accepted`, elapsed, waits and loads, then a line for each draw: draw, symbol, tick, slot, and the symbol's name where it is
-      known. A refused list: which event or draw it is, and what is in its way.
+      `accepted`, elapsed, waits, loads and the longest wait before one draw, then a line for each draw: draw, symbol, tick, slot, and
+      the symbol's name where it is known. A refused list: which event or draw it is, and what is in its way.
 TEXT
 }
 
@@ -26,8 +26,8 @@ help_timeline() {
     cat <<'TEXT'
   govahrin timeline SHEET.job [WHAT] [--text] [--from TICK] [--to TICK] [--names FILE] [-o FILE]
       A picture (SVG) of the sheet's run; with --text in plain text. WHAT is a load list or a plan's name (conservative if nothing is
-      said); a plan's name wins over a file of that name, and ./opt is the file. Of a refused list the run up to its refusal is
-      drawn, and the refusal marked.
+      said); a plan's name wins over a file of that name, and ./opt is the file. The longest wait is marked. Of a
+      refused list the run up to its refusal is drawn, and the refusal marked.
 TEXT
 }
 

@@ -1,9 +1,9 @@
 # Reads what the front end hands to its awk programs, in parts on standard input. A line `part NAME` begins each part:
 #   job, list   the file's bytes in decimal      names   a line a symbol: its number, a tab, its name
-#   run         `accepted ELAPSED WAITS LOADS` and a line a draw, from check_sheet; of a refused list the draws before its refusal
+#   run         `accepted ELAPSED WAITS LOADS LONGEST` and a line a draw, from check_sheet; of a refused list the draws before its refusal
 #   refused     the number and the detail of a refusal
 # After readSheet() the job is slots, loadTime, draws, starting[] and drawn[], the list eventTick[], eventSlot[] and
-# eventSymbol[] for event 0 to events - 1, the run elapsed, waits, loads, drawTick[] and drawSlot[] for draw 0 to made - 1.
+# eventSymbol[] for event 0 to events - 1, the run elapsed, waits, loads, longest, drawTick[] and drawSlot[] for draw 0 to made - 1.
 
 BEGIN { made = 0 }
 $1 == "part" { part = $2; next }
@@ -11,7 +11,7 @@ part == "job" { for (i = 1; i <= NF; i++) jobByte[jobBytes++] = $i; next }
 part == "list" { for (i = 1; i <= NF; i++) listByte[listBytes++] = $i; next }
 part == "names" { nameOf[$1] = substr($0, index($0, "\t") + 1); next }
 part == "refused" { refusal = $1 + 0; detail = $2 + 0; next }
-part == "run" && $1 == "accepted" { elapsed = $2 + 0; waits = $3 + 0; loads = $4 + 0; next }
+part == "run" && $1 == "accepted" { elapsed = $2 + 0; waits = $3 + 0; loads = $4 + 0; longest = $5 + 0; next }
 part == "run" { drawTick[made] = $3 + 0; drawSlot[made++] = $4 + 0 }
 
 function least(a, b) { return a < b ? a : b }

@@ -2,6 +2,7 @@
 #   Shown are the ticks first to until - 1: the environment's FROM and TO, or all up to the end or the refusal.
 #   span 1 to spans: what a slot does from a tick until another. wait 1 to stretches: ticks without a draw, by their cause:
 #   L, where the awaited symbol is being loaded; O, where another is; N, where nothing is.
+#   The longest single wait, the first where several are as long, is from tick pauseFrom until pauseUntil; none where both are 0.
 
 function stop(line) {
     print line > "/dev/stderr"
@@ -102,6 +103,23 @@ function reckonWaits(   draw, tick) {
     if (refusal != "" && refusal != 14) addWaits(tick, refusalTick, drawn[made])
 }
 
+# Of a refused list no wait is marked: its answer has no longest wait.
+function reckonLongest(   draw, tick) {
+    pauseFrom = pauseUntil = tick = 0
+    if (refusal != "" || !longest) return
+    for (draw = 0; draw < made; draw++) {
+        if (drawTick[draw] - tick == longest && !asLong++) {
+            pauseFrom = tick
+            pauseUntil = drawTick[draw]
+            pauseDraw = draw
+        }
+        tick = drawTick[draw] + 1
+    }
+}
+
+# Whether any of it is shown.
+function showsLongest() { return pauseUntil > first && pauseFrom < until && pauseFrom < pauseUntil }
+
 # What is shown, in words.
 
 function ticksWords(from, end) { return end - from == 1 ? "tick " from : "ticks " from " to " (end - 1) }
@@ -121,6 +139,9 @@ function waitWords(i,   awaited, why) {
     return "waits, " ticksWords(waitFrom[i], waitUntil[i]) ": " why
 }
 
+function whichLongest() { return "the longest wait" (asLong > 1 ? ", the first of " asLong " as long" : "") }
+function longestWords() { return whichLongest() ": " ticksWords(pauseFrom, pauseUntil) ", before draw " pauseDraw }
+
 # The waits that are shown: each cause that occurs, and their sum.
 function sumWords(   i, sum, words, letter) {
     split("L O N", letter, " ")
@@ -134,7 +155,7 @@ function sumWords(   i, sum, words, letter) {
 }
 
 function runWords() {
-    if (refusal == "") return "elapsed " elapsed ", waits " waits ", loads " loads
+    if (refusal == "") return "elapsed " elapsed ", waits " waits ", loads " loads ", longest " longest
     return "refused at tick " refusalTick " after " made " of " countOf(draws, "draw")
 }
 
@@ -168,5 +189,6 @@ END {
     reckonRange()
     reckonSlots()
     reckonWaits()
+    reckonLongest()
     if (refusal == "" && !isCut && waitsShown + 0 != waits) stop("the picture has " waitsShown + 0 " waits, and the run " waits)
 }

@@ -134,7 +134,8 @@ function noteShown(symbol) {
 }
 
 # The style. The other classes: g the page, q quiet words, b the title, m and e words set to their middle and end, h words on
-# a pattern, i words on N and r, o an outline, d a draw, l a load, L O N the waits, r v a refusal, x z lines of patterns.
+# a pattern, i words on N and r, o an outline, d a draw and the bar of the longest wait, l a load, L O N the waits, r v a
+# refusal, x z lines of patterns.
 
 function scheme(page, ink, quiet, outline, hatch, refused, waitL, waitO, waitN, inkOnN, tint,   rules, i) {
     rules = "svg:root{background:" page "}.g{fill:" page "}.h{stroke:" page "}text,.d{fill:" ink "}.x{stroke:" ink "}\n" \
@@ -223,6 +224,17 @@ function drawWait(i,   cause, band, from, end) {
     }
 }
 
+# A bar below the longest wait, in each band that it touches.
+function drawLongest(   band, from, end, x) {
+    if (!showsLongest()) return
+    for (band = bandOf(most(first, pauseFrom)); band < bands && startOf(band) < pauseUntil; band++) {
+        from = most(pauseFrom, startOf(band))
+        end = least(pauseUntil, endOf(band))
+        x = number(across(from, band))
+        rectangle(x, down(slots, band) + 20, most(0.5, number(across(end, band)) - x), 3, "d", "", longestWords())
+    }
+}
+
 # Draws the mark of the draws that a slot has gathered, if any, and forgets them.
 function drawMark(slot,   band, words) {
     if (!gathered[slot]) return
@@ -299,14 +311,14 @@ function axis(band,   step, tick, row) {
     text(left - 6, down(slots, band) + 13, "e", "waits")
 }
 
-# The sum of the waits is at the end of their last row, or below it where there is no room.
+# The sum of the waits is at the end of their last row, or below it where there is no room, and then clear of the bar.
 function drawSum(   x, y) {
     x = across(until, bands - 1) + 8
     y = down(slots, bands - 1) + 13
     below = y + 5
     if (x + wideOf(sumWords()) > 478) {
         x = left
-        y += 18
+        y += showsLongest() ? 22 : 18
         below += 9
     }
     text(x, y, "", sumWords())
@@ -326,7 +338,8 @@ function key(class, textClass, sign, swatch, words, room) {
         keyX = left
         below += 18
     }
-    if (class == "d") mark(keyX + swatch - markWidth - 1, below + 5, markWidth, "")
+    if (class == "bar") rectangle(keyX, below + 6, swatch, 3, "d", "", "")
+    else if (class == "d") mark(keyX + swatch - markWidth - 1, below + 5, markWidth, "")
     else if (class != "") box(keyX, below, swatch, 15, class, "")
     if (sign != "") text(keyX + swatch / 2, below + 12, textClass " m", sign)
     if (words != "") text(keyX + swatch + 5, below + 12, "", words)
@@ -368,6 +381,7 @@ function legend(   cause, words, i) {
     split("L O N", cause, " ")
     split("the awaited symbol is being loaded;another symbol is being loaded;nothing is being loaded", words, ";")
     for (i = 1; i <= 3; i++) if (cause[i] in waitsOf) key(cause[i], i == 3 ? "i" : "", cause[i], 24, words[i], bandWidth)
+    if (showsLongest()) key("bar", "", "", 24, whichLongest(), bandWidth)
     if (shows["refusal"]) key("r", "i", "!", 24, "refused", bandWidth)
 }
 
@@ -408,6 +422,7 @@ END {
     for (band = 0; band < bands; band++) axis(band)
     for (i = 1; i <= spans; i++) drawSpan(i)
     for (i = 1; i <= stretches; i++) drawWait(i)
+    drawLongest()
     drawDraws()
     drawRefusal()
     below = head

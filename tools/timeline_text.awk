@@ -1,5 +1,6 @@
 # A timeline in plain text: a column a tick, a row a slot. `3*` is drawn from, `>3` is being loaded, `.` is free. A wait
-# is L where the awaited symbol is being loaded, O where another is, N where nothing is; `!` is where a list is refused.
+# is L where the awaited symbol is being loaded, O where another is, N where nothing is; `!` is where a list is refused. The
+# letters of the longest wait have a `^`.
 
 function pad(words, width) {
     while (length(words) < width) words = words " "
@@ -16,6 +17,7 @@ function fill(   i, tick, words) {
     for (i = 0; i < made; i++) cell[drawSlot[i], drawTick[i]] = drawn[i] "*"
     for (i = 1; i <= stretches; i++)
         for (tick = most(first, waitFrom[i]); tick < least(until, waitUntil[i]); tick++) cause[tick] = waitCause[i]
+    for (tick = most(first, pauseFrom); tick < least(until, pauseUntil); tick++) cause[tick] = cause[tick] "^"
     if (refusal != "") cause[refusalTick] = "!"
     width = most(width, length(columns "") + 1)
 }
@@ -73,6 +75,7 @@ END {
         printBands()
         print "\n3* drawn, >3 being loaded, . free; wait: L awaited symbol is being loaded, O another is, N nothing is" \
             (refusal == "" ? "" : ", ! refused")
+        if (showsLongest()) print "^ " longestWords()
         printNames()
     }
 }
