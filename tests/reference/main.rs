@@ -1,4 +1,4 @@
-// The reference: answers cases by document 01 alone, and makes random cases.
+// The reference: answers cases by the rules alone, and makes random cases.
 //   reference answer             cases on standard input, one a line; the same lines with their answers on standard output
 //   reference cases SEED COUNT   COUNT random cases, always the same for one seed
 //   reference words              cases on standard input, in words

@@ -25,17 +25,22 @@ not-stuck : (until q y x : ℕ) (done : Bool) → (until ≡ 0 → done ≡ fals
 not-stuck zero q y x done goes-on = goes-on refl
 not-stuck (suc left) q y x done goes-on = by-test (eqb x y) (λ same. rw same) (λ other. rw other)
 
--- No stretch at all, whatever happened.
-pub rested-none : (quiet : ℕ → Type 0) (limit : ℕ) (happening : Happening) (d : Display) → d .tick ≤ limit → quiet 0
-    → Rested quiet limit happening d d
-rested-none quiet limit happening d early still =
+-- No waits leave the display as it is.
+passed-none : (d : Display) → passed 0 d ≡ d
+passed-none d =
     let ticks : d .tick + 0 ≡ d .tick = omega arith in
     let waits : d .waits + 0 ≡ d .waits = omega arith in
     let pause : d .pause + 0 ≡ d .pause = omega arith in
     let until : d .remaining - 0 ≡ d .remaining = omega arith in
+    rw (ticks, waits, pause, until)
+
+-- No stretch at all, whatever happened.
+pub rested-none : (quiet : ℕ → Type 0) (limit : ℕ) (happening : Happening) (d : Display) → d .tick ≤ limit → quiet 0
+    → Rested quiet limit happening d d
+rested-none quiet limit happening d early still =
     record {
       many = 0;
-      passes = rw (ticks, waits, pause, until);
+      passes = sym (passed-none d);
       in-time = omega arith;
       after-wait = λ some. absurd (omega arith);
       still = still;
@@ -56,19 +61,11 @@ module _ (job : Job) (rule : Rule) where
       pub far : d .remaining ≡ 1 → ⊥
       pub goes-on : d .remaining ≡ 0 → rule .done (view slots h (nearer d)) ≡ false
 
-    none-further : (d : Display) → view slots h (passed 0 d) ≡ view slots h d
-    none-further d =
-        let ticks : d .tick + 0 ≡ d .tick = omega arith in
-        let waits : d .waits + 0 ≡ d .waits = omega arith in
-        let pause : d .pause + 0 ≡ d .pause = omega arith in
-        let until : d .remaining - 0 ≡ d .remaining = omega arith in
-        rw (ticks, waits, pause, until)
-
     -- No ticks at all lead nowhere, whatever is awaited.
     no-stretch : (t : ℕ) (d : Display) → run job rule (0 + t) (view slots h d) ≡ run job rule t (view slots h (passed 0 d))
     no-stretch t d =
         let all : 0 + t ≡ t = omega arith in
-        ap (λ (n : ℕ). run job rule n (view slots h d)) all ∙ ap (run job rule t) (sym (none-further d))
+        ap (λ (n : ℕ). run job rule n (view slots h d)) all ∙ ap (λ (e : Display). run job rule t (view slots h e)) (sym (passed-none d))
 
     module _ (more : finished (h .rest) ≡ false) (absent : stands (getD (h .rest) 0 0) slots ≡ false) where
       quiet-tick : (d : Display) → Quiet d → tick job rule (view slots h d) ≡ going (view slots h (passed 1 d))
