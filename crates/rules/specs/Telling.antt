@@ -9,7 +9,8 @@ use Rattle.rules.specs.LoadList.{eventsIn, eventsBytes}
 use Rattle.rules.specs.Display.{run, tick, beginning, happened}
 use Rattle.rules.specs.Plans.{missing, ranksFrom, greatest}
 use Rattle.rules.specs.Refusals.{checked, planned, due, firstBadTick, doubled, jobTests, tickBytes}
-use Rattle.rules.specs.Worked.{Row, row, found, expected, accepts, refuses, planning, checking, symbolBytes, jobFields, jobBytes, listFields, loads, load}
+use Rattle.rules.specs.Worked.{Row, row, found, expected, accepts, refuses, planning, checking}
+use Rattle.rules.specs.Worked.{symbolBytes, jobFields, jobBytes, listFields, loads, load}
 use Rattle.rules.specs.Worked.{job-a, job-c, recordsFound}
 use Rattle.rules.specs.Worked.{plan, list, check, ticks, slots, check-for-c, room-later, ticks-later, slots-later, ticks-for-c-later}
 use Rattle.rules.specs.Worked.{plan-records, check-records, job-number, shape, symbols-in, limits, list-number, bad-tick, event-at, load-number}
@@ -34,7 +35,8 @@ telling-bytes =
     -- The fields of a job: k in one byte, F and n in two; then its symbols in two each, the starting ones first.
     ∷ row (shape (0 ∷ 0 ∷ 0 ∷ 8 ∷ 1 ∷ 3 ∷ 1 ∷ 2 ∷ 3 ∷ 4 ∷ 5 ∷ 6 ∷ [])) (3 ∷ 258 ∷ 772 ∷ [])
     ∷ row (shape (0 ∷ 0 ∷ 0 ∷ 1 ∷ 1 ∷ [])) (0 ∷ 0 ∷ 0 ∷ [])
-    ∷ row (symbols-in (0 ∷ 0 ∷ 0 ∷ 14 ∷ 1 ∷ 2 ∷ 0 ∷ 1 ∷ 0 ∷ 2 ∷ 1 ∷ 2 ∷ 3 ∷ 4 ∷ 5 ∷ 6 ∷ 255 ∷ 255 ∷ [])) (258 ∷ 772 ∷ 1286 ∷ 65535 ∷ [])
+    ∷ row (symbols-in (0 ∷ 0 ∷ 0 ∷ 14 ∷ 1 ∷ 2 ∷ 0 ∷ 1 ∷ 0 ∷ 2 ∷ 1 ∷ 2 ∷ 3 ∷ 4 ∷ 5 ∷ 6 ∷ 255 ∷ 255 ∷ []))
+    (258 ∷ 772 ∷ 1286 ∷ 65535 ∷ [])
     -- An event takes seven bytes: tick in four, slot in one, symbol in two. With more only the first seven count.
     ∷ row (event-at (1 ∷ 2 ∷ 3 ∷ 4 ∷ 5 ∷ 6 ∷ 7 ∷ [])) (0 ∷ 16909060 ∷ 5 ∷ 1543 ∷ [])
     ∷ row (event-at (1 ∷ 2 ∷ 3 ∷ 4 ∷ 5 ∷ 6 ∷ 7 ∷ 8 ∷ [])) (0 ∷ 16909060 ∷ 5 ∷ 1543 ∷ [])

@@ -263,7 +263,8 @@ rows =
     ∷ []
 
 -- The bytes of job a as document 01 gives them; of a job with the mark of a free slot; and of a list.
-job-a-bytes : job-a ≡ 0 ∷ 0 ∷ 0 ∷ 0x12 ∷ 1 ∷ 2 ∷ 0 ∷ 4 ∷ 0 ∷ 4 ∷ 0 ∷ 1 ∷ 0 ∷ 2 ∷ 0 ∷ 1 ∷ 0 ∷ 2 ∷ 0 ∷ 3 ∷ 0 ∷ 1 ∷ []
+job-a-bytes : job-a
+    ≡ 0 ∷ 0 ∷ 0 ∷ 0x12 ∷ 1 ∷ 2 ∷ 0 ∷ 4 ∷ 0 ∷ 4 ∷ 0 ∷ 1 ∷ 0 ∷ 2 ∷ 0 ∷ 1 ∷ 0 ∷ 2 ∷ 0 ∷ 3 ∷ 0 ∷ 1 ∷ []
 unfolding symbolBytes
 job-a-bytes = refl
 
