@@ -31,9 +31,15 @@ pub fn byte_at(s: &[u8], at: usize) -> u8
     if at < s.len() { s[at] } else { 0 }
 }
 
+// Where both bytes are there, as in every job and list that is in order, one test finds it out.
 pub fn number16_at(s: &[u8], at: usize) -> u16
     ensures { λ r. ⌜ r ≡ number16 (now (s .entry)) at ⌝ }
 {
+    if 2 <= s.len() {
+        if at <= s.len() - 2 {
+            return join16(s[at], s[at + 1]);
+        }
+    }
     if at < s.len() {
         join16(s[at], byte_at(s, at + 1))
     } else {
