@@ -52,13 +52,18 @@ fn still_ticks(list: &[u8], count: u16, d: Display) -> u32
 }
 
 // The display after the waits that follow a tick in which this happened: as far as nothing else can come up, and no further than the
-// limit. A draw may be followed by another, so after it no tick is passed over.
+// limit. A draw may be followed by another, and a load that ends in the next tick may bring one, so after these no tick is passed over.
 pub fn after_waits(list: &[u8], count: u16, d: Display, happening: Happening, limit: u32) -> Display
     requires { ⌜ MayWait (now list) count d limit ⌝ }
     ensures { λ r. ⌜ Rested (NothingDue (eventsIn count (drop head-size (now (list .entry)))) d) limit happening d r ⌝ }
 {
     match happening {
         Happening::Draw { slot: _ } => d,
-        Happening::Wait(_) => pass_waits(d, smaller(limit - d.tick, still_ticks(list, count, d))),
+        Happening::Wait(_) => {
+            if d.remaining == 1 {
+                return d;
+            }
+            pass_waits(d, smaller(limit - d.tick, still_ticks(list, count, d)))
+        }
     }
 }

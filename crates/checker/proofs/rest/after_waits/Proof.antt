@@ -35,6 +35,12 @@ returns c =
 
 returns-2 : tie.Need-returns-2
 returns-2 c =
+    let s : tie.Start = search in
+    let a = s .args in
+    rested-none _ (a .limit) (a .happening) (a .d) (s .pre .rests .in-time) (still-none _ (a .d))
+
+returns-3 : tie.Need-returns-3
+returns-3 c =
     let after : tie.After-pass-waits = search in
     let s : tie.Start = search in
     let still : tie.After-still-ticks = search in
@@ -59,9 +65,10 @@ after-waits-spec =
     (tie.spec
     enum-told
     enum-told-2
+    returns
     sub-smaller
     still-ticks-requires
     smaller-requires
     pass-waits-requires
-    returns
-    returns-2)
+    returns-2
+    returns-3)
