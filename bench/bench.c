@@ -1,69 +1,12 @@
 /* Times the library and the plain C program on the same jobs in one process, turn about, and stops if they ever answer
    differently. Writes a line a repeat: sheet, call, n, k, F, then the nanoseconds of the library and of the plain program. */
-#include "plain.h"
+#include "shared.h"
 #include <stdio.h>
 #include <stdlib.h>
-#include <string.h>
-#include <time.h>
 
-enum { REPEATS = 5, ROOM = 7 + 7 * 4096, SHORTEST = 8000000 };
+enum { REPEATS = 5, SHORTEST = 8000000 };
 
-struct input {
-    uint8_t job[10 + 2 * 64 + 2 * 4096], list[ROOM];
-    size_t job_len, list_len;
-    unsigned n, k, f;
-};
-
-struct output {
-    govahrin_answer answer;
-    uint8_t room[ROOM], ticks[4 * 4096], slots[4096];
-};
-
-static struct input input;
-static struct output ours, plain;
 static const char *const names[] = {"aggressive", "conservative", "opt", "lru", "check"};
-enum { AGGRESSIVE = 0, CHECK = 4 };
-
-static void put(uint8_t *at, unsigned bytes, uint32_t number)
-{
-    while (bytes--) {
-        at[bytes] = (uint8_t)number;
-        number >>= 8;
-    }
-}
-
-/* A job whose slots start with the symbols 0 to k - 1; its draws are still to be put. */
-static void put_job(unsigned n, unsigned k, unsigned f)
-{
-    unsigned i;
-    input.n = n;
-    input.k = k;
-    input.f = f;
-    input.job_len = 10 + 2 * k + 2 * n;
-    put(input.job, 4, (uint32_t)input.job_len - 4);
-    put(input.job + 4, 1, 1);
-    put(input.job + 5, 1, k);
-    put(input.job + 6, 2, f);
-    put(input.job + 8, 2, n);
-    for (i = 0; i < k; i++) put(input.job + 10 + 2 * i, 2, i);
-}
-
-static void put_draw(unsigned place, unsigned symbol) { put(input.job + 10 + 2 * input.k + 2 * place, 2, symbol); }
-
-static void put_list(unsigned events)
-{
-    input.list_len = 7 + 7 * events;
-    put(input.list, 4, 3 + 7 * events);
-    put(input.list + 4, 1, 1);
-    put(input.list + 5, 2, events);
-}
-
-static void put_event(unsigned place, uint32_t tick, unsigned slot, unsigned symbol)
-{
-    put(input.list + 7 + 7 * place, 4, tick);
-    put(input.list + 11 + 7 * place, 1, slot);
-    put(input.list + 12 + 7 * place, 2, symbol);
-}
 
 /* What the check is given where no other list is made: the list of conservative. */
 static void put_conservative(void)
@@ -134,49 +77,16 @@ static void make_longest(void)
     put_event(0, GOVAHRIN_LAST_TICK, 63, 999);
 }
 
-static void call(int library, int what, struct output *o)
-{
-    if (what == CHECK && library)
-        o->answer = govahrin_check(input.job, input.job_len, input.list, input.list_len, o->ticks, sizeof o->ticks,
-                                   o->slots, sizeof o->slots);
-    else if (what == CHECK)
-        o->answer = plain_check(input.job, input.job_len, input.list, input.list_len, o->ticks, sizeof o->ticks,
-                                o->slots, sizeof o->slots);
-    else if (library)
-        o->answer = govahrin_plan(input.job, input.job_len, (uint32_t)what, o->room, ROOM);
-    else
-        o->answer = plain_plan(input.job, input.job_len, (uint32_t)what, o->room, ROOM);
-}
-
-/* Of the processor's time, so that other programs on the machine count for less. */
-static double nanoseconds(void)
-{
-    struct timespec now;
-    clock_gettime(CLOCK_PROCESS_CPUTIME_ID, &now);
-    return 1e9 * (double)now.tv_sec + (double)now.tv_nsec;
-}
-
-static double timed(int library, int what, unsigned calls)
-{
-    double from = nanoseconds();
-    unsigned i;
-    for (i = 0; i < calls; i++) call(library, what, library ? &ours : &plain);
-    return (nanoseconds() - from) / calls;
-}
-
 static void row(const char *sheet, int what)
 {
     double mine = 0, theirs, one;
     unsigned i, calls, n = input.n, k = input.k, f = input.f;
-    memset(&ours, 0, sizeof ours);
-    memset(&plain, 0, sizeof plain);
-    one = timed(0, what, 1);
-    call(1, what, &ours);
-    if (memcmp(&ours, &plain, sizeof ours) != 0 || ours.answer.number) {
+    if (!agree(what) || ours.answer.number) {
         fprintf(stderr, "bench: the library and the plain program answer differently: %s, %s, n %u, k %u, F %u\n", sheet,
                 names[what], n, k, f);
         exit(1);
     }
+    one = timed(0, what, 1);
     calls = one > SHORTEST ? 1 : (unsigned)(SHORTEST / (one + 1)) + 1;
     for (i = 0; i < REPEATS; i++) {
         if (i % 2) mine = timed(1, what, calls);

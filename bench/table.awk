@@ -146,4 +146,5 @@ END {
     growth("In k, all draws different, n 1,024 and F 1", "different", all, "k", ks, "1024 ", " 1")
     growth("In n, sheets made to be slow, k 64 and F 1", "worst", "check aggressive", "n", ns, "", " 64 1")
     growth("In k, sheets made to be slow, n 1,024 and F 1", "worst", "check aggressive", "k", ks, "1024 ", " 1")
+    print ""
 }

@@ -1,0 +1,39 @@
+/* What the programs of the benchmark share: the job and the list that they are making, the call of the library or of the
+   plain program on them, and the clock. */
+#ifndef SHARED_H
+#define SHARED_H
+
+#include "plain.h"
+
+enum { ROOM = 7 + 7 * 4096 };
+enum { AGGRESSIVE = 0, CHECK = 4 };
+
+struct input {
+    uint8_t job[10 + 2 * 64 + 2 * 4096], list[ROOM];
+    size_t job_len, list_len;
+    unsigned n, k, f;
+};
+
+struct output {
+    govahrin_answer answer;
+    uint8_t room[ROOM], ticks[4 * 4096], slots[4096];
+};
+
+extern struct input input;
+extern struct output ours, plain;
+
+/* A job whose slots start with the symbols 0 to k - 1; its draws are still to be put. */
+void put_job(unsigned n, unsigned k, unsigned f);
+void put_draw(unsigned place, unsigned symbol);
+
+/* A list of so many events, each still to be put. */
+void put_list(unsigned events);
+void put_event(unsigned place, uint32_t tick, unsigned slot, unsigned symbol);
+
+/* Whether the library and the plain program answer the same bytes: one of the four plans, or CHECK. */
+int agree(int what);
+
+/* The nanoseconds of one call, over so many, of the library or the plain program. */
+double timed(int library, int what, unsigned calls);
+
+#endif
