@@ -66,7 +66,11 @@
    A govahrin_answer is returned by value and is aligned as uint32_t is.
 
    THREADS. Any number of threads may call at once, each with its own lent memory. A call blocks on nothing and calls
-   nothing of the host's but memcpy and memset. */
+   nothing of the host's but memcpy and memset.
+
+   TIME. Measured, and not promised: a tick of a check takes as long whichever slot its draw comes from, since every
+   search for a symbol looks at all slots. A wait in the tick before a load ends takes as long as a draw; waits in a row,
+   in which nothing else can come up, are passed over at once. */
 #ifndef GOVAHRIN_H
 #define GOVAHRIN_H
 

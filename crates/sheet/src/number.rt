@@ -31,7 +31,7 @@ pub fn byte_at(s: &[u8], at: usize) -> u8
     if at < s.len() { s[at] } else { 0 }
 }
 
-// Where both bytes are there, as in every job and list that is in order, one test finds it out.
+// Both bytes are there in every job and list that is in order, so that is asked first.
 pub fn number16_at(s: &[u8], at: usize) -> u16
     ensures { λ r. ⌜ r ≡ number16 (now (s .entry)) at ⌝ }
 {
