@@ -1,47 +1,40 @@
--- `after_waits` meets its contract: after a draw no tick is passed over, after a wait as many as are still.
+-- `after_waits` meets its contract: after a draw, and where a load ends in the next tick, no tick is passed over; after any other wait as
+-- many as are still.
 use Prim.Native.Nat.{_-_, _≤_, min}
 use native.Mathlib.Omega.{arith}
 use mathlib.Core.Path.{_≡_, ap}
+use lib.ListN.{drop}
 use borrow.Author.Needs.{needs}
+use Rattle.rules.specs.LoadList.{eventsIn, head-size}
 use Rattle.display.proofs.Stretches.{rested-none}
-use Rattle.display.specs.Still.{waiting}
+use Rattle.display.specs.declared.state.Display.{Display}
+use Rattle.display.specs.Still.{waiting, Rested}
+use Rattle.checker.specs.Follow.{NothingDue}
 use Rattle.checker.proofs.Walks.{still-none, still-fewer}
 use Rattle.checker.proofs.rest.after_waits.Statement.{statement}
 use Rattle.checker.proofs.rest.after_waits.Tie as tie
 
-enum-told : tie.Need-enum-told
-enum-told c = search needs
+-- No tick is passed over.
+module _ (s : tie.Start) where
+  abbrev d : Display
+  d = s .args .d
 
-enum-told-2 : tie.Need-enum-told-2
-enum-told-2 c = search needs
+  stays : Rested (NothingDue (eventsIn (s .args .count) (drop head-size (s .args .list .now))) d) (s .args .limit) (s .args .happening) d d
+  stays = rested-none _ (s .args .limit) (s .args .happening) d (s .pre .rests .in-time) (still-none _ d)
 
-sub-smaller : tie.Need-sub-smaller
-sub-smaller c = search needs
-
-still-ticks-requires : tie.Need-still-ticks-requires
-still-ticks-requires c κs = search needs
-
-smaller-requires : tie.Need-smaller-requires
-smaller-requires c κs = search needs
-
-pass-waits-requires : tie.Need-pass-waits-requires
-pass-waits-requires c κs = search needs
-
-returns : tie.Need-returns
-returns c =
-    let s : tie.Start = search in
-    let a = s .args in
-    rested-none _ (a .limit) (a .happening) (a .d) (s .pre .rests .in-time) (still-none _ (a .d))
-
-returns-2 : tie.Need-returns-2
-returns-2 c =
-    let s : tie.Start = search in
-    let a = s .args in
-    rested-none _ (a .limit) (a .happening) (a .d) (s .pre .rests .in-time) (still-none _ (a .d))
-
-returns-3 : tie.Need-returns-3
-returns-3 c =
-    let after : tie.After-pass-waits = search in
+pub after-waits-spec : {M : Type 1} → statement M
+after-waits-spec =
+    tie.close
+    (tie.spec
+    (λ c. search needs)
+    (λ c. search needs)
+    (λ c. let s : tie.Start = search in stays s)
+    (λ c. search needs)
+    (λ c κs. search needs)
+    (λ c κs. search needs)
+    (λ c κs. search needs)
+    (λ c. let s : tie.Start = search in stays s)
+    (λ c. let after : tie.After-pass-waits = search in
     let s : tie.Start = search in
     let still : tie.After-still-ticks = search in
     let fewer : tie.After-smaller = search in
@@ -57,18 +50,4 @@ returns-3 c =
       in-time = omega arith;
       after-wait = λ some. ap waiting (waits .enum-told2 .given .1);
       still = still-fewer _ (a .d) m n (omega arith) (still .still-ticks .ensures);
-    }
-
-pub after-waits-spec : {M : Type 1} → statement M
-after-waits-spec =
-    tie.close
-    (tie.spec
-    enum-told
-    enum-told-2
-    returns
-    sub-smaller
-    still-ticks-requires
-    smaller-requires
-    pass-waits-requires
-    returns-2
-    returns-3)
+    }))
