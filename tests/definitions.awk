@@ -1,5 +1,6 @@
-# Turns lines of plan.txt and check.txt into rows of crates/rules/specs/Worked.antt, as one antt module on standard output.
-# most: the greatest elapsed of a row; report: the file that says how many rows there are, and of which refusals and plans.
+# Turns lines of tests/vectors into rows of crates/rules/specs/Worked.antt, as one antt module on standard output.
+# most: the greatest elapsed of a row; longest: the most bytes of a text or a list that is written or read; report: the file that
+# says how many rows there are, and of which refusals and plans.
 
 function digit(c) { return index("0123456789abcdef", c) - 1 }
 
@@ -24,12 +25,13 @@ function numbers(text,   n, i, part, out) {
 
 function row(question, answer) { rows = rows "    row (" question ") " answer "\n    ∷ " }
 
-# Eight rows to a theorem, so that a refusal names a short stretch of the table.
+# Some eight rows to a theorem, so that a refusal names a short stretch of the table.
 function flush() {
     if (!held) return
     theorems++
     table = table "\npart-" theorems " : map found (" substr(rows, 5) "[]) ≡ map expected (" substr(rows, 5) "[])\n" \
         "unfolding planned checked run tick beginning happened place symbols doubled missing ranksFrom greatest eventsIn eventsBytes due firstBadTick\n" \
+        "    firstOf digitsOf textOf digitCount numberFrom readLine readLines writeTests readTests\n" \
         "part-" theorems " = refl\n"
     rows = ""
     held = 0
@@ -53,6 +55,17 @@ $1 == "check" && $9 <= most {
     if (++held == 4) flush()
 }
 
+function size(hex) { return hex == "-" ? 0 : length(hex) / 2 }
+
+# The answer has no size in a vector: it is that of the bytes written, and 0 where there are none.
+/^text-/ && size($2) <= longest && size($7) <= longest {
+    row(($1 == "text-write" ? "text-written " : "text-read ") bytes($2) " " $3, \
+        "(" $5 " ∷ " $6 " ∷ " size($7) " ∷ " substr(bytes($7), 2))
+    seen[$5]++
+    used++
+    if (++held == 8) flush()
+}
+
 END {
     flush()
     print "-- The vectors, computed with the definitions."
@@ -60,15 +73,17 @@ END {
     print "use mathlib.Core.List.{[], _∷_, map}"
     print "use Rattle.rules.specs.Basics.{place}"
     print "use Rattle.rules.specs.Job.{symbols}"
+    print "use Rattle.rules.specs.Order.{firstOf}"
     print "use Rattle.rules.specs.LoadList.{eventsIn, eventsBytes}"
     print "use Rattle.rules.specs.Display.{run, tick, beginning, happened}"
     print "use Rattle.rules.specs.Plans.{missing, ranksFrom, greatest}"
     print "use Rattle.rules.specs.Refusals.{checked, planned, due, firstBadTick, doubled}"
-    print "use Rattle.rules.specs.Worked.{Row, row, plan, list, check, ticks, slots, found, expected}"
+    print "use Rattle.rules.specs.Text.{digitsOf, textOf, digitCount, numberFrom, readLine, readLines, writeTests, readTests}"
+    print "use Rattle.rules.specs.Worked.{Row, row, plan, list, check, ticks, slots, text-written, text-read, found, expected}"
     print table
     line = "tests/definitions: " used " vectors; plans accepted:"
     for (p = 0; p <= 3; p++) line = line " " p " x" plans[p] + 0
     line = line "; by number:"
-    for (n = 0; n <= 15; n++) if (seen[n]) line = line " " n " x" seen[n]
+    for (n = 0; n <= 16; n++) if (seen[n]) line = line " " n " x" seen[n]
     print line > report
 }

@@ -106,6 +106,9 @@ unfoldable pub firstBadTick : ℕ → List Event → ℕ
 firstBadTick least [] = 0
 firstBadTick least (event t q x ∷ l) = cond (ltb last-tick t || ltb t least) 0 (suc (firstBadTick (t + 1) l))
 
+abbrev pub tickTest : List Event → Test
+tickTest events = test 9 (firstBadTick 0 events) (ltb (firstBadTick 0 events) (length events))
+
 -- ---- A check of a list: refusals 7 to 14
 
 -- A list as a rule: its next event begins when its tick has come.
@@ -141,7 +144,7 @@ checkTests asked list ticks slots =
     jobTests (asked .job)
     ++ (test 8 0 (badList list)
     ∷ test 7 0 (shortCheck asked ticks slots)
-    ∷ test 9 (firstBadTick 0 (eventsOf list)) (ltb (firstBadTick 0 (eventsOf list)) (length (eventsOf list)))
+    ∷ tickTest (eventsOf list)
     ∷ [])
 
 -- Where none of these holds, 10 to 14 come as time meets them.

@@ -7,6 +7,7 @@ use mathlib.Core.Bool.{Bool, cond}
 use mathlib.Core.List.{List, [], _∷_, _++_, map}
 use lib.ListN.{length}
 use Rattle.rules.specs.declared.Answer.{Answer}
+use Rattle.rules.specs.declared.Written.{Written}
 use Rattle.rules.specs.declared.Shape.{Shape}
 use Rattle.rules.specs.declared.JobReading.{JobReading}
 use Rattle.rules.specs.declared.JobReading.the-variants.{Taken, Refused}
@@ -29,6 +30,7 @@ use Rattle.rules.specs.Plans.{missing, ranksFrom, greatest, ruleOf}
 use Rattle.rules.specs.Refusals.{checked, checkedForC, planned, due, follow, firstBadTick, doubled, badLimits, readJob, jobNumber, readList}
 use Rattle.rules.specs.Refusals.{listNumber, eventNumber}
 use Rattle.rules.specs.Refusals.{answerOf, ticksOf, slotsOf, tickBytes, writtenBy, lent}
+use Rattle.rules.specs.Text.{Writing, writeText, readText, writtenOf, bytesOf}
 
 -- ---- Jobs and lists written out
 
@@ -92,6 +94,8 @@ load t q x = (0 ∷ t / 65536 ∷ t / 256 % 256 ∷ t % 256 ∷ q ∷ []) ++ two
 --     number-two, number-four         the number in two bytes and in four, from a place on
 --     head-put, event-put             lent room after a head, or an event, was put into it
 --     put-number                      the number that answers a put
+--     text-written, text-read         the answer of the writer and of the reader (number, detail, size), and the bytes that they write
+--     text-later, list-later          the lent room after the writer and after the reader
 pub data Question : Type 0 where
   plan list : (job : List ℕ) (plan room : ℕ) → Question
   check ticks slots check-for-c : (job list : List ℕ) (tick-places slot-places : ℕ) → Question
@@ -108,6 +112,8 @@ pub data Question : Type 0 where
   head-put : (count : ℕ) (room : List ℕ) → Question
   event-put : (index tick slot symbol : ℕ) (room : List ℕ) → Question
   put-number : (at size : ℕ) (room : List ℕ) → Question
+  text-written text-read : (bytes : List ℕ) (room : ℕ) → Question
+  text-later list-later : (bytes room : List ℕ) → Question
 
 pub data Row : Type 0 where
   row : Question → List ℕ → Row
@@ -116,6 +122,9 @@ pub data Row : Type 0 where
 
 abbrev pub numbers : Answer → List ℕ
 numbers a = a .number ∷ a .detail ∷ a .elapsed ∷ a .waits ∷ a .loads ∷ a .longest ∷ []
+
+abbrev pub writingFound : Writing → List ℕ
+writingFound w = writtenOf w .number ∷ writtenOf w .detail ∷ writtenOf w .size ∷ bytesOf w
 
 abbrev pub truth : Bool → List ℕ
 truth b = cond b 1 0 ∷ []
@@ -200,6 +209,10 @@ found (row (number-four b at) expected) = number32 b at ∷ []
 found (row (head-put m room) expected) = putHead m room
 found (row (event-put i t q x room) expected) = putEvent i (event t q x) room
 found (row (put-number at size room) expected) = putNumber at size room ∷ []
+found (row (text-written l room) expected) = writingFound (writeText l room)
+found (row (text-read t room) expected) = writingFound (readText t room)
+found (row (text-later l room) expected) = lent (bytesOf (writeText l (length room))) room
+found (row (list-later t room) expected) = lent (bytesOf (readText t (length room))) room
 
 abbrev pub expected : Row → List ℕ
 expected (row question answer) = answer

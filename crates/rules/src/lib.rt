@@ -82,3 +82,11 @@ pub struct Answer {
     pub loads: u32,
     pub longest: u32,
 }
+
+// What a call that writes into lent room answers: number 0 and the bytes written, or a refusal's number and detail and no bytes.
+#[repr(C)]
+pub struct Written {
+    pub number: u32,
+    pub detail: u32,
+    pub size: u32,
+}
