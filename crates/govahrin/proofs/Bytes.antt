@@ -2,12 +2,13 @@
 use Prim.Native.Nat.{ℕ, _+_, _*_, _<_, _≤_}
 use native.Mathlib.Omega.{arith}
 use native.Mathlib.Numerals.{add-one}
-use mathlib.Core.Path.{_≡_, refl, ap, _∙_}
+use mathlib.Core.Path.{_≡_, refl, sym, ap, _∙_}
 use mathlib.Core.List.{List, [], _∷_, _++_}
 use lib.ListN.{length, getD, take, drop, length-append, length-drop}
-use lib.Seq.{take-suc, take-at, drop-append-add, drop-drop, length-take-le}
+use lib.Seq.{take-suc, length-take-le}
 use Rattle.rules.specs.Basics.{bytes32}
 use Rattle.rules.specs.Refusals.{tickBytes, lent}
+use Rattle.laws.proofs.Writing.{lent-longer}
 
 pub length-tickBytes : (l : List ℕ) → length (tickBytes l) ≡ 4 * length l
 unfolding tickBytes
@@ -18,17 +19,6 @@ one-more : (l : List ℕ) (t : ℕ) → tickBytes (l ++ (t ∷ [])) ≡ tickByte
 unfolding tickBytes
 one-more [] t = refl
 one-more (x ∷ l) t = ap (λ (r : List ℕ). bytes32 x ++ r) (one-more l t)
-
--- What is written after what was written is written with it.
-grown : (b new to : List ℕ) (n : ℕ) → length b ≡ n → take n (lent b to) ++ new ++ drop (n + length new) (lent b to) ≡ lent (b ++ new) to
-grown b new to n e =
-    rw (
-      take-at b (drop (length b) to) n e,
-      ← e,
-      drop-append-add b (drop (length b) to) (length new),
-      drop-drop (length new) (length b) to,
-      length-append b new,
-    )
 
 module _ (from to : List ℕ) (i : ℕ) where
   front : i ≤ length from → length (tickBytes (take i from)) ≡ 4 * i
@@ -43,5 +33,5 @@ module _ (from to : List ℕ) (i : ℕ) where
       → take (4 * i) (lent (tickBytes (take i from)) to) ++ bytes32 (getD from i 0) ++ drop (4 * i + 4) (lent (tickBytes (take i from)) to)
       ≡ lent (tickBytes (take (i + 1) from)) to
   put-more there =
-      grown (tickBytes (take i from)) (bytes32 (getD from i 0)) to (4 * i) (front (omega arith))
+      lent-longer (tickBytes (take i from)) (bytes32 (getD from i 0)) to (4 * i) (sym (front (omega arith)))
       ∙ rw (add-one, take-suc from i 0 there, one-more (take i from) (getD from i 0))

@@ -17,3 +17,5 @@ pub mod Events
 pub mod Goes
 pub mod Same
 pub mod Numbers
+pub mod Copies
+pub mod Writing

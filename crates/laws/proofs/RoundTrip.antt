@@ -17,7 +17,7 @@ joined32 t = omega arith
 joined16 : (x : ℕ) → number16 (bytes16 x) 0 ≡ x
 joined16 x = omega arith
 
-events-back : (l : List Event) (rest : List ℕ) → eventsIn (length l) (eventsBytes l ++ rest) ≡ l
+pub events-back : (l : List Event) (rest : List ℕ) → eventsIn (length l) (eventsBytes l ++ rest) ≡ l
 unfolding eventsIn eventsBytes
 events-back [] rest = refl
 events-back (event t q x ∷ l) rest = rw (joined32 t, joined16 x, events-back l rest)

@@ -4,45 +4,15 @@ use native.Mathlib.Omega.{arith}
 use native.Mathlib.Numerals.{add-one}
 use mathlib.Core.Path.{_≡_, refl, sym, ap, _∙_}
 use mathlib.Core.List.{List, [], _∷_, _++_, map, append-nil, append-assoc}
-use lib.ListN.{length, getD, take, drop, length-append, length-drop, length-map, take-append-drop, List·getD-map}
+use lib.ListN.{length, getD, take, drop, length-append, length-map, take-append-drop, List·getD-map}
 use lib.Seq.{take-at, drop-at, drop-drop, take-suc, take-all, length-take-le}
-use borrow.Author.Tests.{le-ltb, ltb-false}
-use Rattle.rules.specs.LoadList.{Event, event, event-at, eventBytes, headBytes, eventsBytes, listBytes, put, tooShort, putHead, putEvent}
+use Rattle.rules.specs.LoadList.{Event, event, event-at, eventBytes, headBytes, eventsBytes, listBytes, putHead, putEvent}
 use Rattle.rules.specs.Display.{loaded}
 use Rattle.rules.specs.Refusals.{eventOf, lent}
-use Rattle.laws.proofs.Cases.{by-test}
+use Rattle.laws.proofs.Writing.{put-after, put-front, length-put, events-snoc}
 use Rattle.laws.proofs.RoundTrip.{length-events}
 use Rattle.planner.specs.Loads.{loadOf, firstLoads}
 use Rattle.planner.proofs.LoadRow.{load-first, length-first}
-
--- Seven bytes put after what was written so far.
-put-after : (front new : List ℕ) (at : ℕ) (before : List ℕ) → length front ≡ at → length new ≡ 7 → at + 7 ≤ length before
-    → put at new (front ++ drop at before) ≡ (front ++ new) ++ drop (at + 7) before
-put-after front new at before written seven fits =
-    let size : length (front ++ drop at before) ≡ length before =
-    length-append front (drop at before) ∙ rw (written, length-drop at before) (omega arith) in
-    let after : drop (at + 7) (front ++ drop at before) ≡ drop (at + 7) before =
-    sym (drop-drop 7 at (front ++ drop at before)) ∙ ap (λ (l : List ℕ). drop 7 l) (drop-at front (drop at before) at written) ∙ drop-drop 7 at before in
-    rw (seven, size, le-ltb (length before) (at + 7) fits, take-at front (drop at before) at written, after)
-
-put-front : (count : ℕ) (before : List ℕ) → 7 ≤ length before → putHead count before ≡ headBytes count ++ drop 7 before
-put-front count before fits = rw (le-ltb (length before) 7 fits)
-
--- The room stays as long as it is.
-pub length-put : (at : ℕ) (new room : List ℕ) → length (put at new room) ≡ length room
-length-put at new room =
-    by-test (tooShort at (length new) room)
-    (λ t. rw t)
-    (λ t.
-    let fits : at + length new ≤ length room = ltb-false (length room) (at + length new) t in
-    rw t
-    (length-append (take at room ++ new) (drop (at + length new) room)
-    ∙ rw (length-append (take at room) new, length-take-le at room (omega arith), length-drop (at + length new) room) (omega arith)))
-
-events-snoc : (l : List Event) (e : Event) → eventsBytes (l ++ (e ∷ [])) ≡ eventsBytes l ++ eventBytes e
-unfolding eventsBytes
-events-snoc [] e = append-nil (eventBytes e)
-events-snoc (x ∷ l) e = rw (events-snoc l e) (sym (append-assoc (eventBytes x) (eventsBytes l) (eventBytes e)))
 
 pieces : (x x′ y y′ z z′ : List ℕ) → x ≡ x′ → y ≡ y′ → z ≡ z′ → (x ++ y) ++ z ≡ (x′ ++ y′) ++ z′
 pieces x x′ y y′ z z′ p q r = rw (p, q, r)

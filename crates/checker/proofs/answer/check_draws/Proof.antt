@@ -6,7 +6,8 @@ use Rattle.rules.specs.Order.{clear}
 use Rattle.rules.specs.Refusals.{checkTests}
 use Rattle.laws.proofs.Verdicts.{Gives, end, stop, step}
 use Rattle.laws.proofs.Jobs.{at-job, past-job}
-use Rattle.checker.proofs.Answers.{at-list, past-list, is-sized, room-test, at-order, past-order, refuses, hands-out, roomy}
+use Rattle.sheet.proofs.Lists.{at-list, past-list, is-sized, at-order, past-order}
+use Rattle.checker.proofs.Answers.{room-test, refuses, hands-out, roomy}
 use Rattle.checker.proofs.answer.check_draws.Statement.{statement}
 use Rattle.checker.proofs.answer.check_draws.Tie as tie
 

@@ -10,7 +10,7 @@ use Rattle.rules.specs.Job.{Call, call, startingSymbols, drawsOf}
 use Rattle.rules.specs.declared.Shape.{Shape}
 use Rattle.sheet.proofs.Rows.{row-starts}
 use Rattle.laws.specs.Limits.{Limits}
-use Rattle.checker.proofs.Copies.{copied-lent}
+use Rattle.laws.proofs.Copies.{copied-lent}
 use Rattle.checker.proofs.Ends.{starting-size}
 use Rattle.checker.proofs.answer.hand_out.Statement.{statement}
 use Rattle.checker.proofs.answer.hand_out.Tie as tie

@@ -4,7 +4,8 @@ use native.Mathlib.Omega.{arith}
 use mathlib.Core.List.{List, _++_}
 use mathlib.Core.Path.{_≡_, refl, ap, _∙_}
 use lib.ListN.{length, getD, take, drop, set}
-use Rattle.checker.proofs.Copies.{Copied, copied-more, copied-length}
+use Rattle.laws.proofs.Copies.{copied-more, copied-length}
+use Rattle.checker.proofs.Copies.{Copied}
 use Rattle.checker.proofs.copy.copy_draws.Statement.{statement}
 use Rattle.checker.proofs.copy.copy_draws.Tie as tie
 

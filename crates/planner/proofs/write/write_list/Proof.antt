@@ -5,7 +5,8 @@ use mathlib.Core.Path.{_≡_, ap, _∙_}
 use lib.ListN.{length}
 use borrow.Author.Needs.{needs}
 use Rattle.rules.specs.LoadList.{headBytes}
-use Rattle.planner.proofs.Writes.{SoFar, length-put, so-far-none, so-far-more, so-far-all}
+use Rattle.laws.proofs.Writing.{length-put}
+use Rattle.planner.proofs.Writes.{SoFar, so-far-none, so-far-more, so-far-all}
 use Rattle.planner.proofs.write.write_list.Statement.{statement}
 use Rattle.planner.proofs.write.write_list.Tie as tie
 
