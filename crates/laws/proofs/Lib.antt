@@ -19,3 +19,4 @@ pub mod Same
 pub mod Numbers
 pub mod Copies
 pub mod Writing
+pub mod Decimals
