@@ -18,7 +18,7 @@ use Rattle.demands.proofs.Witness.{sheet-right}
 use Rattle.demands.proofs.Demand1.{plan-accepts}
 
 -- A list takes seven bytes for its head and seven for each event.
-list-size : (l : List Event) → length (listBytes l) ≡ 7 + 7 * length l
+pub list-size : (l : List Event) → length (listBytes l) ≡ 7 + 7 * length l
 list-size l = omega (arith, length-append (headBytes (length l)) (eventsBytes l), length-events l)
 
 -- An accepted plan writes a head and an event for each of its loads, of which there are no more than draws.

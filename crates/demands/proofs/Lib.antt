@@ -25,3 +25,8 @@ pub mod ListWords
 pub mod WrittenAgain
 pub mod PlansInWords
 pub mod Outgoing
+pub mod TextLines
+pub mod TextReads
+pub mod TextRows
+pub mod TextFits
+pub mod TextDemands

@@ -30,7 +30,7 @@ use Rattle.demands.proofs.Tables.{Says, Agree, end, more, late, lateTes
 -- ---- Tests in general
 
 -- Of two tests of which one holds, it is the first or the second.
-either : {A : Type 0} (a b : Bool) → (a || b) ≡ true → (a ≡ true → A) → (b ≡ true → A) → A
+pub either : {A : Type 0} (a b : Bool) → (a || b) ≡ true → (a ≡ true → A) → (b ≡ true → A) → A
 either true b e one other = one refl
 either false b e one other = other e
 
@@ -40,7 +40,7 @@ first-of true b e = refl
 first-of false b e = held-and-failed false e refl
 
 -- So it is where the second holds.
-second-of : (a b : Bool) → b ≡ true → (a || b) ≡ true
+pub second-of : (a b : Bool) → b ≡ true → (a || b) ≡ true
 second-of true b e = refl
 second-of false b e = e
 
@@ -55,7 +55,7 @@ none-of-five a b c d e h =
     (first, second, third, fourth, fifth)
 
 -- Two numbers that a test tells apart are not the same,
-unlike : (a b : ℕ) → not (eqb a b) ≡ true → a ≡ b → ⊥
+pub unlike : (a b : ℕ) → not (eqb a b) ≡ true → a ≡ b → ⊥
 unlike a b e = eqb-false a b (not-true (eqb a b) e)
 
 -- and two that are not the same are told apart.
@@ -63,7 +63,7 @@ is-unlike : (a b : ℕ) → (a ≡ b → ⊥) → not (eqb a b) ≡ true
 is-unlike a b other = rw (ne-eqb a b other)
 
 -- A row with detail 0: it does not hold where its test fails, and it holds where its test does.
-plainly : {P : Type 0} (tested : Bool) → (P → tested ≡ false → ⊥) → (tested ≡ true → P) → Says (λ d. (d ≡ 0) × P) 0 tested
+pub plainly : {P : Type 0} (tested : Bool) → (P → tested ≡ false → ⊥) → (tested ≡ true → P) → Says (λ d. (d ≡ 0) × P) 0 tested
 plainly tested to from =
     record {
       found = λ d h. (by-test tested (λ e. e) (λ e. absurd (to (h .1) e)), sym (h .0));
@@ -162,7 +162,7 @@ symbols-words starting draws = plainly (badSymbols starting draws) to from
 -- ---- Rows 7 to 9
 
 -- Where the test of row 8 fails, each of its parts does.
-list-fails : (list : List ℕ) → badList list ≡ false
+pub list-fails : (list : List ℕ) → badList list ≡ false
     → (ltb (length list) head-size ≡ false)
     × (not (eqb (number32 list 0) (length list - 4)) ≡ false)
     × (not (eqb (getD list 4 0) 1) ≡ false)
@@ -173,7 +173,7 @@ list-fails list e =
     (ltb most-events (countOf list)) _ e
 
 -- Row 8.
-list-words : (list : List ℕ) → Says (λ d. (d ≡ 0) × ListWrong list) 0 (badList list)
+pub list-words : (list : List ℕ) → Says (λ d. (d ≡ 0) × ListWrong list) 0 (badList list)
 list-words list = plainly (badList list) to from
   where
     to : ListWrong list → badList list ≡ false → ⊥
@@ -265,7 +265,7 @@ so-wrong events zero (not-above under) = inr under
 so-wrong events (suc i) (not-above under) = inr under
 
 -- Row 9, with the first such event.
-order-words : (events : List Event) → Says (FirstOutOfOrder events) (firstBadTick 0 events) (ltb (firstBadTick 0 events) (length events))
+pub order-words : (events : List Event) → Says (FirstOutOfOrder events) (firstBadTick 0 events) (ltb (firstBadTick 0 events) (length events))
 order-words events =
     record {
       found = λ i h.
@@ -303,7 +303,7 @@ late-words (refused n d) =
 -- ---- The tables
 
 -- A row that says that one number is below another.
-lower-words : (a b : ℕ) → Says (λ d. (d ≡ 0) × (a < b)) 0 (ltb a b)
+pub lower-words : (a b : ℕ) → Says (λ d. (d ≡ 0) × (a < b)) 0 (ltb a b)
 lower-words a b = plainly (ltb a b) (λ h. held-and-failed (ltb a b) (lt-ltb a b h)) (ltb-true a b)
 
 -- A row that says that two numbers are not the same.

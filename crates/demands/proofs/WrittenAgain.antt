@@ -45,7 +45,7 @@ seven l long bytes =
     ∙ ap (λ (r : List ℕ). getD l 0 0 ∷ getD l 1 0 ∷ getD l 2 0 ∷ getD l 3 0 ∷ getD l 4 0 ∷ getD l 5 0 ∷ r) (drop-cons l 6 0 (omega arith))))
 
 -- What comes after some bytes are bytes.
-bytes-after : (n : ℕ) (l : List ℕ) → Bytes l → Bytes (drop n l)
+pub bytes-after : (n : ℕ) (l : List ℕ) → Bytes l → Bytes (drop n l)
 bytes-after n l bytes i h =
     let size : length (drop n l) ≡ length l - n = length-drop n l in rw (getD-drop n l i 0) (bytes (n + i) (omega arith))
 

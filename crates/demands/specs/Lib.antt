@@ -4,3 +4,4 @@ pub mod Fair
 pub mod Table
 pub mod TwoRocks
 pub mod InWords
+pub mod TextWords

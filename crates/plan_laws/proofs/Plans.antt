@@ -62,7 +62,7 @@ planned-done asked shape p room taken known enough d =
     ∙ rw (d .ran, d .over)
 
 -- A list that was written can be read.
-written-read : (l : List Event) → length l ≤ most-events → badList (listBytes l) ≡ false
+pub written-read : (l : List Event) → length l ≤ most-events → badList (listBytes l) ≡ false
 written-read l few =
     by-test (badList (listBytes l))
     (λ t.
