@@ -1,4 +1,4 @@
-/* A small host: it plans a sheet, checks the list before anything is shown, and steps a display tick by tick.
+/* A small host: it plans a sheet, prints its loads, checks the list before anything is shown, and steps a display tick by tick.
    Build it where the library is installed: cc -std=c99 host.c $(pkg-config --cflags --libs govahrin)
    or in the source tree: cc -std=c99 -I include examples/host.c target/staticlib/libgovahrin.a */
 #include "govahrin.h"
@@ -31,6 +31,14 @@ static void report(const char *what, govahrin_answer a)
     else
         printf("%s: elapsed %u, waits %u, loads %u, longest wait %u\n", what, (unsigned)a.elapsed, (unsigned)a.waits,
                (unsigned)a.loads, (unsigned)a.longest);
+}
+
+/* The list as its proofreader sees it. The text ends with its size, and has no zero byte after it. */
+static void print_list(const uint8_t *list, size_t list_len)
+{
+    uint8_t text[GOVAHRIN_TEXT_ROOM(DRAWS)];
+    govahrin_written w = govahrin_write_text(list, list_len, text, sizeof text);
+    if (w.number == 0) printf("loads, as tick, slot, symbol:\n%.*s", (int)w.size, (const char *)text);
 }
 
 /* A display knows slots, ticks and a list. It never looks at what it draws: that is why the list is checked first. */
@@ -69,6 +77,7 @@ int main(void)
     planned = govahrin_plan(sheet, sizeof sheet, GOVAHRIN_CONSERVATIVE, list, sizeof list);
     report("plan", planned);
     if (planned.number) return 1;
+    print_list(list, GOVAHRIN_LIST_SIZE(planned.loads));
     checked = govahrin_check(sheet, sizeof sheet, list, GOVAHRIN_LIST_SIZE(planned.loads), times.ticks,
                              sizeof times.ticks, times.slots, sizeof times.slots);
     report("check", checked);

@@ -1,4 +1,5 @@
-/* Govahrin for C and C++: plan the symbol loads of a bridge display, and check a load list before a display trusts it.
+/* Govahrin for C and C++: plan the symbol loads of a bridge display, check a load list before a display trusts it, and
+   write and read a load list as text.
    This header is the manual; `man 3 govahrin` has the calls in short.
 
    A display holds chart symbols in k slots. Any other symbol comes off a slow card and takes F ticks to load into a
@@ -31,6 +32,15 @@
        5       2      events m, 0 to 4,096
        7       7m     the events: tick (4 bytes, 0 to 8,388,607, rising strictly), slot (1), symbol (2)
 
+   THE TEXT. A load list that people can read, one event a line: tick, slot and symbol in decimal, one blank (byte 32)
+   between them and a line feed (byte 10) after each line. No leading zeros, no sign, nothing else; a last line has its
+   line feed too. At most 4,096 lines, a slot at most 255, a symbol at most 65535. The list with no event is the text
+   with no byte. A list and its text have the same events: what was written reads back as the same bytes, and what was
+   read writes back as the same text. The text of two events:
+
+       2 1 3
+       7 1 2
+
    ONE TICK, while draws remain. First a load begun F ticks ago puts its symbol into its slot. Then, if the next event
    has this tick, its load begins: what the slot held is gone at once. Then, if some slot holds the next draw's symbol,
    it is drawn from there; if not, this tick is a wait.
@@ -60,10 +70,11 @@
    and there it trusts its caller:
    - a length is no more than the memory at its pointer: the library believes it, and reads or writes that far;
    - memory that a call may write overlaps nothing else that the call is given;
-   - the stack has room for the call: GOVAHRIN_PLAN_STACK or GOVAHRIN_CHECK_STACK bytes.
-   Measured, and not promised: where memory overlaps, the answer is still right, and one result lies over the other;
-   where the stack is too small, a system that guards its end stops the process, and there is no answer.
-   A govahrin_answer is returned by value and is aligned as uint32_t is.
+   - the stack has room for the call: GOVAHRIN_PLAN_STACK, GOVAHRIN_CHECK_STACK or GOVAHRIN_TEXT_STACK bytes.
+   Measured, and not promised: where memory overlaps, the answer of a plan, of a check and of a text that is read is still
+   right, and one result lies over the other; a text that is written over its own list need not be the text of that list.
+   Where the stack is too small, a system that guards its end stops the process, and there is no answer.
+   A govahrin_answer and a govahrin_written are returned by value and are aligned as uint32_t is.
 
    THREADS. Any number of threads may call at once, each with its own lent memory. A call blocks on nothing and calls
    nothing of the host's but memcpy and memset.
@@ -79,15 +90,15 @@
 
 /* The version of the library and of this header. Until 1.0 the surface changes with the requests. */
 #define GOVAHRIN_VERSION_MAJOR 0
-#define GOVAHRIN_VERSION_MINOR 2
+#define GOVAHRIN_VERSION_MINOR 3
 #define GOVAHRIN_VERSION_PATCH 0
-#define GOVAHRIN_VERSION "0.2.0"
+#define GOVAHRIN_VERSION "0.3.0"
 
 #ifdef __cplusplus
 extern "C" {
 #endif
 
-/* What both functions answer. Accepted: number 0, detail 0 and the run's counts. Refused: the refusal's number and
+/* What a plan and a check answer. Accepted: number 0, detail 0 and the run's counts. Refused: the refusal's number and
    detail, the counts 0, and every lent byte as it was before the call. */
 typedef struct {
     uint32_t number;  /* 0, or why the call was refused: see the refusals below */
@@ -98,8 +109,17 @@ typedef struct {
     uint32_t longest; /* the longest single wait: the most waits between a draw and the draw before it, or the start */
 } govahrin_answer;
 
+/* What the writer and the reader of texts answer. Accepted: number 0, detail 0 and the bytes written. Refused: the
+   refusal's number and detail, size 0, and every lent byte as it was before the call. */
+typedef struct {
+    uint32_t number; /* 0, or why the call was refused: see the refusals below */
+    uint32_t detail; /* the event or the line that a refusal names, counted from 0; else 0 */
+    uint32_t size;   /* bytes written, from the first byte of the lent room on; 0 on a refusal */
+} govahrin_written;
+
 /* The refusals. The first that applies is given: for a plan in the order 1 to 5, 6, 7, 15; for a check 1 to 5, 8, 7, 9,
-   then 10 to 14 as time meets them, and 10, 11, 12 for one event. Detail is 0 unless said otherwise. */
+   then 10 to 14 as time meets them, and 10, 11, 12 for one event; for the writer of a text 8, 9, 7; for the reader 16,
+   9, 7. Detail is 0 unless said otherwise. */
 enum {
     GOVAHRIN_ACCEPTED = 0,
     GOVAHRIN_JOB_LENGTH = 1,     /* the job has under 10 bytes, or its length is not the count of the bytes after it */
@@ -116,10 +136,13 @@ enum {
     GOVAHRIN_EVENT_SYMBOL = 12,  /* an event's symbol is held by a slot, or is 65535; detail: the event */
     GOVAHRIN_DRAW_NEVER = 13,    /* a draw's symbol is in no slot, no load under way, no event left; detail: the draw */
     GOVAHRIN_EVENT_LEFT = 14,    /* all draws are done and an event is left; detail: the first left */
-    GOVAHRIN_PLAN_TOO_LONG = 15  /* a plan's elapsed would pass 8,388,607; no job within the limits is so long */
+    GOVAHRIN_PLAN_TOO_LONG = 15, /* a plan's elapsed would pass 8,388,607; no job within the limits is so long */
+    GOVAHRIN_TEXT_LINE = 16      /* a line is outside the shape, its slot over 255 or its symbol over 65535, or it is the
+                                    4,097th; detail: the first such line */
 };
 
-/* A refusal's number in words, a line without its end. Where they say "an event" or "a draw", detail is which one. */
+/* A refusal's number in words, a line without its end. Where they say "an event", "a draw" or "a line", detail is which
+   one. */
 static inline const char *govahrin_words(uint32_t number)
 {
     static const char *const words[] = {
@@ -139,6 +162,8 @@ static inline const char *govahrin_words(uint32_t number)
         "a draw would wait for ever: its symbol is in no slot, no load is under way and no event is left",
         "an event is left when all draws are done",
         "the plan would take more than 8,388,607 ticks",
+        ("a line is not tick, slot and symbol in decimal with one blank between and a line feed, "
+         "or its slot is over 255, its symbol over 65535, or it is one line too many"),
     };
     return number < sizeof words / sizeof words[0] ? words[number] : "no refusal has this number";
 }
@@ -152,12 +177,13 @@ enum {
     GOVAHRIN_LRU = 3           /* loads on demand, in place of the symbol drawn longest ago */
 };
 
-/* Sizes in bytes, for k slots, n draws and m events. */
+/* Sizes in bytes, for k slots, n draws and m events. A line of a text has 7 + 1 + 3 + 1 + 5 + 1 bytes at most. */
 #define GOVAHRIN_JOB_SIZE(k, n) (10 + 2 * (size_t)(k) + 2 * (size_t)(n))
 #define GOVAHRIN_LIST_SIZE(m) (7 + 7 * (size_t)(m))
 #define GOVAHRIN_PLAN_ROOM(n) (7 + 7 * (size_t)(n))
 #define GOVAHRIN_TICKS_ROOM(n) (4 * (size_t)(n))
 #define GOVAHRIN_SLOTS_ROOM(n) ((size_t)(n))
+#define GOVAHRIN_TEXT_ROOM(m) (18 * (size_t)(m))
 
 #define GOVAHRIN_MOST_SLOTS 64
 #define GOVAHRIN_MOST_LOAD_TIME 1000
@@ -166,10 +192,12 @@ enum {
 #define GOVAHRIN_LAST_TICK 8388607
 #define GOVAHRIN_FREE 65535
 
-/* The most stack that a call of the x86-64 archive takes, in bytes: upper bounds, measured by tests/stack_run on the
-   largest inputs. They include some 3,000 bytes for a dynamic loader that looks up memset or memcpy during the call. */
+/* The most stack that a plan, a check, and the writer or the reader of a text take in the x86-64 archive, in bytes: upper
+   bounds, measured by tests/stack_run on the largest inputs. They include some 3,000 bytes for a dynamic loader that
+   looks up memset or memcpy during the call. */
 #define GOVAHRIN_PLAN_STACK 54272
 #define GOVAHRIN_CHECK_STACK 41984
+#define GOVAHRIN_TEXT_STACK 32768
 
 /* Plans a job by one of the four plans.
    job, job_len    the job's bytes; only read
@@ -188,6 +216,28 @@ govahrin_answer govahrin_plan(const uint8_t *job, size_t job_len, uint32_t plan,
    each; the bytes after them are as they were. Refusals 1 to 5 and 7 to 14. */
 govahrin_answer govahrin_check(const uint8_t *job, size_t job_len, const uint8_t *list, size_t list_len,
                                uint8_t *ticks, size_t ticks_len, uint8_t *slots, size_t slots_len);
+
+/* Writes a load list as text.
+   list, list_len  the list's bytes; only read
+   text, text_len  lent room for the text; GOVAHRIN_TEXT_ROOM(m) bytes are always enough, and as many as the text has do
+   Accepted: the text is in text from its first byte and has size bytes; the bytes after it are as they were, so no zero
+   byte ends it. Refusals 8, then 9, then 7 where the room is shorter than the text. No job is asked for: a list that is
+   written need not suit one. After a plan into room, with m loads at most:
+
+       uint8_t text[GOVAHRIN_TEXT_ROOM(m)];
+       govahrin_written w = govahrin_write_text(room, GOVAHRIN_LIST_SIZE(a.loads), text, sizeof text);
+       if (w.number == 0) fwrite(text, 1, w.size, stdout); */
+govahrin_written govahrin_write_text(const uint8_t *list, size_t list_len, uint8_t *text, size_t text_len);
+
+/* Reads a text as a load list, whatever its bytes are.
+   text, text_len  the text's bytes; only read. It ends with its length: a zero byte is a byte like others, and outside
+                   the shape
+   list, list_len  lent room for the list: GOVAHRIN_LIST_SIZE(m) bytes for a text of m lines
+   Accepted: the list is in list from its first byte and has size bytes; the bytes after it are as they were. Refusals 16
+   over the whole text, then 9 over all its events, then 7 where the room is shorter than the list. A tick may have any
+   number of digits, and meets 9 where it is over the limit; a slot or a symbol over its limit meets 16. A list that was
+   read is not checked: whether it suits a job govahrin_check says. */
+govahrin_written govahrin_read_text(const uint8_t *text, size_t text_len, uint8_t *list, size_t list_len);
 
 #ifdef __cplusplus
 }

@@ -1,7 +1,7 @@
 /* Calls the library as a host would, case by case: cases in the form of tests/vectors on standard input, the same lines
    with the library's answers on standard output. All memory is lent between guard bytes, and each byte is looked at
    after the call: a refusal leaves all of them as they were, an accepted call writes the first places alone. A line ends
-   with MEMORY and a reason where that is not so. */
+   with MEMORY and a reason where that is not so, and with BACK where a list and its text are not made of each other. */
 #include "govahrin.h"
 #include <stdio.h>
 #include <stdlib.h>
@@ -19,6 +19,7 @@ struct lent {
 };
 
 static struct lent job = {"the job", 0, 0, {0}, {0}}, list = {"the list", 0, 0, {0}, {0}};
+static struct lent text = {"the text", 0, 0, {0}, {0}};
 static struct lent room = {"room", 0, 0, {0}, {0}}, ticks = {"ticks", 0, 0, {0}, {0}}, slots = {"slots", 0, 0, {0}, {0}};
 
 static void stop(const char *why)
@@ -133,6 +134,48 @@ static void run_check(size_t tick_places, size_t slot_places, unsigned turn)
     look_at(&job, 0), look_at(&list, 0), look_at(&ticks, GOVAHRIN_TICKS_ROOM(n)), look_at(&slots, n);
 }
 
+/* Both calls between lists and texts: the size that they answer is that of what they wrote, and 0 on a refusal. */
+static void print_written(govahrin_written answer)
+{
+    size_t written = answer.number ? 0 : answer.size;
+    printf("%u %u ", (unsigned)answer.number, (unsigned)answer.detail);
+    print_bytes(room.at, written <= room.length ? written : 0);
+    if (answer.number && answer.size) printf(" MEMORY: a refusal has size %u", (unsigned)answer.size);
+    if (written > room.length) printf(" MEMORY: size %lu in room of %lu", (unsigned long)written, (unsigned long)room.length);
+    look_at(&room, written);
+}
+
+/* What was written is read, or what was read is written: that gives back the bytes that were lent. */
+static uint8_t back[MOST_LENT];
+
+static void look_back(const struct lent *lent, govahrin_written answer)
+{
+    if (answer.number || answer.size != lent->length || memcmp(back, lent->at, lent->length) != 0)
+        printf(" BACK: not %s as it was, but %u with size %u", lent->name, (unsigned)answer.number, (unsigned)answer.size);
+}
+
+static void run_write(size_t room_length, unsigned turn)
+{
+    govahrin_written answer;
+    lend(&room, room_length, turn + 1);
+    remember(&list), remember(&room);
+    answer = govahrin_write_text(given(&list, turn), list.length, given(&room, turn), room.length);
+    print_written(answer);
+    look_at(&list, 0);
+    if (answer.number == 0) look_back(&list, govahrin_read_text(room.at, answer.size, back, sizeof back));
+}
+
+static void run_read(size_t room_length, unsigned turn)
+{
+    govahrin_written answer;
+    lend(&room, room_length, turn + 1);
+    remember(&text), remember(&room);
+    answer = govahrin_read_text(given(&text, turn), text.length, given(&room, turn), room.length);
+    print_written(answer);
+    look_at(&text, 0);
+    if (answer.number == 0) look_back(&text, govahrin_write_text(room.at, answer.size, back, sizeof back));
+}
+
 static const char *word(char *from)
 {
     const char *found = strtok(from, " \n");
@@ -142,25 +185,38 @@ static const char *word(char *from)
 
 static size_t size(void) { return strtoul(word(NULL), NULL, 10); }
 
+/* The words after the kind of a case, and the call that they ask for. */
+static void run_kind(const char *kind, unsigned turn)
+{
+    if (strcmp(kind, "plan") == 0) {
+        uint32_t plan;
+        lend_bytes(&job, word(NULL), turn);
+        plan = (uint32_t)size();
+        run_plan(plan, size(), turn);
+    } else if (strcmp(kind, "check") == 0) {
+        size_t places;
+        lend_bytes(&job, word(NULL), turn);
+        lend_bytes(&list, word(NULL), turn + 1);
+        places = size();
+        run_check(places, size(), turn);
+    } else if (strcmp(kind, "text-write") == 0) {
+        lend_bytes(&list, word(NULL), turn);
+        run_write(size(), turn);
+    } else if (strcmp(kind, "text-read") == 0) {
+        lend_bytes(&text, word(NULL), turn);
+        run_read(size(), turn);
+    } else {
+        stop("a case begins with plan, check, text-write or text-read");
+    }
+}
+
 static void run_case(char *line, unsigned turn)
 {
-    const char *kind;
     char *answer = strstr(line, " =>");
     if (answer) *answer = 0;
     line[strlen(line) - (line[strlen(line) - 1] == '\n')] = 0;
     printf("%s => ", line);
-    kind = word(line);
-    if (strcmp(kind, "plan") != 0 && strcmp(kind, "check") != 0) stop("a case begins with plan or check");
-    lend_bytes(&job, word(NULL), turn);
-    if (strcmp(kind, "plan") == 0) {
-        uint32_t plan = (uint32_t)size();
-        run_plan(plan, size(), turn);
-    } else {
-        size_t places;
-        lend_bytes(&list, word(NULL), turn + 1);
-        places = size();
-        run_check(places, size(), turn);
-    }
+    run_kind(word(line), turn);
     putchar('\n');
     fflush(stdout); /* if the next case ends the driver, the comparer sees which one it was */
 }

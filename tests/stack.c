@@ -1,6 +1,6 @@
-/* Measures how much stack a plan or a check uses: paints the memory below the stack pointer, makes a call, and looks how deep
-   the paint is gone. Accepted calls and refusals, on the largest job and lists. The words are `plan` or `check` and a figure;
-   status 1 where more is used. Compile it without optimisation: it reads what a function had, after that function has ended.
+/* Measures how much stack a call uses: paints the memory below the stack pointer, makes the call, and looks how deep the paint
+   is gone. Accepted calls and refusals, on the largest job, lists and texts. The words are `plan`, `check` or `text` and a
+   figure; status 1 where more is used. Compile it without optimisation: it reads what a function had, after that function has ended.
    It calls neither memcpy nor memset, so that a loader which binds late looks them up within the library's calls. */
 #include "govahrin.h"
 #include <stdio.h>
@@ -12,13 +12,13 @@ enum { PAINTED = 1 << 18 };
 
 static uint8_t job[GOVAHRIN_JOB_SIZE(SLOTS, DRAWS)], list[GOVAHRIN_PLAN_ROOM(DRAWS)], room[GOVAHRIN_PLAN_ROOM(DRAWS)];
 static uint8_t ticks[GOVAHRIN_TICKS_ROOM(DRAWS)], slots[GOVAHRIN_SLOTS_ROOM(DRAWS)];
-static size_t job_len, list_len, room_len, ticks_len;
+static uint8_t text[GOVAHRIN_TEXT_ROOM(DRAWS) + 1];
+static size_t job_len, list_len, room_len, ticks_len, text_len;
 static uint8_t *const last_event = list + GOVAHRIN_LIST_SIZE(LAST);
 
-/* The call to measure: one of the plans, or a check. */
-enum { CHECK = 99 };
-static uint32_t called;
-static govahrin_answer answer;
+/* The call to measure: one of the plans, a check, the writer or the reader of a text. The number that it answers. */
+enum { CHECK = 99, WRITE, READ };
+static uint32_t called, answered;
 
 static volatile uint8_t *deepest;
 static volatile uint8_t paint;
@@ -36,9 +36,13 @@ static __attribute__((noinline)) void paint_below(void)
 static __attribute__((noinline)) void call(void)
 {
     if (called == CHECK)
-        answer = govahrin_check(job, job_len, list, list_len, ticks, ticks_len, slots, sizeof slots);
+        answered = govahrin_check(job, job_len, list, list_len, ticks, ticks_len, slots, sizeof slots).number;
+    else if (called == WRITE)
+        answered = govahrin_write_text(list, list_len, text, text_len).number;
+    else if (called == READ)
+        answered = govahrin_read_text(text, text_len, room, room_len).number;
     else
-        answer = govahrin_plan(job, job_len, called, room, room_len);
+        answered = govahrin_plan(job, job_len, called, room, room_len).number;
 }
 
 /* The bytes below this function's frame that are painted no more. The few of call() itself are counted in. */
@@ -61,8 +65,8 @@ static void measure(uint32_t which, uint32_t number)
         paint = turn ? 0x5a : 0xa5;
         bytes = used();
         if (most < bytes) most = bytes;
-        if (answer.number == number) continue;
-        printf("a call answered %u where %u was to be measured\n", (unsigned)answer.number, (unsigned)number);
+        if (answered == number) continue;
+        printf("a call answered %u where %u was to be measured\n", (unsigned)answered, (unsigned)number);
         failed = 1;
     }
 }
@@ -142,6 +146,51 @@ static void measure_checks(void)
     measure(CHECK, GOVAHRIN_EVENT_LEFT);
 }
 
+static void put_decimal(uint8_t *at, unsigned digits, uint32_t number, uint8_t stop)
+{
+    at[digits] = stop;
+    while (digits--) at[digits] = (uint8_t)('0' + number % 10), number /= 10;
+}
+
+/* The longest text, of 18 bytes a line, and its list. */
+static void restore_text(void)
+{
+    unsigned i;
+    restore();
+    text_len = GOVAHRIN_TEXT_ROOM(DRAWS);
+    for (i = 0; i < DRAWS; i++) {
+        const uint32_t tick = GOVAHRIN_LAST_TICK - LAST + i;
+        put_decimal(text + 18 * i, 7, tick, ' ');
+        put_decimal(text + 18 * i + 8, 3, 255, ' ');
+        put_decimal(text + 18 * i + 12, 5, 65535, '\n');
+        put(list + 7 + 7 * i, 4, tick);
+        put(list + 7 + 7 * i + 4, 3, 0xffffff);
+    }
+}
+
+static void measure_texts(void)
+{
+    uint8_t *const last_line = text + GOVAHRIN_TEXT_ROOM(LAST);
+    restore_text();
+    measure(WRITE, GOVAHRIN_ACCEPTED);
+    restore_text(), list[4] = 2;
+    measure(WRITE, GOVAHRIN_LIST_BYTES);
+    restore_text(), put(last_event, 4, GOVAHRIN_LAST_TICK + 1);
+    measure(WRITE, GOVAHRIN_EVENT_TICK);
+    restore_text(), text_len--;
+    measure(WRITE, GOVAHRIN_ROOM);
+    restore_text();
+    measure(READ, GOVAHRIN_ACCEPTED);
+    restore_text(), text_len--;
+    measure(READ, GOVAHRIN_TEXT_LINE);
+    restore_text(), text[text_len++] = '7';
+    measure(READ, GOVAHRIN_TEXT_LINE);
+    restore_text(), put_decimal(last_line, 7, GOVAHRIN_LAST_TICK + 1, ' ');
+    measure(READ, GOVAHRIN_EVENT_TICK);
+    restore_text(), room_len--;
+    measure(READ, GOVAHRIN_ROOM);
+}
+
 int main(int count, char **words)
 {
     uint32_t which;
@@ -149,6 +198,8 @@ int main(int count, char **words)
     if (figure == 0) return 2;
     if (strcmp(words[1], "check") == 0) {
         measure_checks();
+    } else if (strcmp(words[1], "text") == 0) {
+        measure_texts();
     } else {
         for (which = GOVAHRIN_AGGRESSIVE; which <= GOVAHRIN_LRU; which++) measure_plan(which);
         restore();

@@ -6,11 +6,13 @@
 
 enum { SLOTS = GOVAHRIN_MOST_SLOTS, TIME = GOVAHRIN_MOST_LOAD_TIME, DRAWS = GOVAHRIN_MOST_DRAWS };
 
-/* Job a of the worked sheets, the list of its conservative plan, and the draws of that list. */
+/* Job a of the worked sheets, the list of its conservative plan, the draws of that list, and its text. */
 static const uint8_t job_a[] = {0, 0, 0, 18, 1, 2, 0, 4, 0, 4, 0, 1, 0, 2, 0, 1, 0, 2, 0, 3, 0, 1};
 static const uint8_t list_a[] = {0, 0, 0, 10, 1, 0, 1, 0, 0, 0, 2, 1, 0, 3};
 static const uint8_t ticks_a[] = {0, 0, 0, 0, 0, 0, 0, 1, 0, 0, 0, 6, 0, 0, 0, 7};
 static const uint8_t slots_a[] = {0, 1, 1, 0};
+
+static const uint8_t text_a[] = {'2', ' ', '1', ' ', '3', '\n'};
 
 static uint8_t memory[64], other[64];
 static unsigned wrong;
@@ -48,6 +50,28 @@ static void check_with_one_memory(void)
     hold("a check with one memory for both", a, memory, ticks_a, sizeof ticks_a);
 }
 
+static void hold_written(const char *call, govahrin_written w, const uint8_t *expected, size_t len)
+{
+    if (w.number == 0 && w.detail == 0 && w.size == len && memcmp(memory, expected, len) == 0) return;
+    printf("%s: answered %u, or left other bytes\n", call, (unsigned)w.number);
+    wrong = 1;
+}
+
+/* The list lies over its text: the text is read before anything is written. */
+static void read_over_its_text(void)
+{
+    memcpy(memory, text_a, sizeof text_a);
+    hold_written("a text read over itself", govahrin_read_text(memory, sizeof text_a, memory, sizeof memory), list_a, sizeof list_a);
+}
+
+/* The text lies over its list, and its lines are shorter than their events, so that what is written stays behind what is read.
+   With longer lines it would not, and nothing is said of that. */
+static void write_over_its_list(void)
+{
+    memcpy(memory, list_a, sizeof list_a);
+    hold_written("a text over its list", govahrin_write_text(memory, sizeof list_a, memory, sizeof memory), text_a, sizeof text_a);
+}
+
 static uint8_t job[GOVAHRIN_JOB_SIZE(SLOTS, DRAWS)], room[GOVAHRIN_PLAN_ROOM(DRAWS)];
 
 static void put(uint8_t *at, unsigned bytes, uint32_t number)
@@ -74,5 +98,7 @@ int main(int count, char **words)
     plan_over_its_job();
     check_over_its_inputs();
     check_with_one_memory();
+    read_over_its_text();
+    write_over_its_list();
     return wrong;
 }

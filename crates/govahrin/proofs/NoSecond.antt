@@ -1,8 +1,10 @@
--- Neither function of the C surface has a second answer, and neither asks anything of its caller.
+-- No function of the C surface has a second answer, and none asks anything of its caller.
 use Rattle.laws.specs.NoSecond.{Promise}
 use Rattle.laws.proofs.Same.{same}
 use Rattle.govahrin.proofs.govahrin_plan as govahrin-plan
 use Rattle.govahrin.proofs.govahrin_check as govahrin-check
+use Rattle.govahrin.proofs.govahrin_write_text as govahrin-write-text
+use Rattle.govahrin.proofs.govahrin_read_text as govahrin-read-text
 
 -- A plan has one answer, and one content of the room later.
 pub govahrin-plan-promise : Promise govahrin-plan.ended govahrin-plan.Reads.Asked govahrin-plan.Reads.Learnt
@@ -21,4 +23,19 @@ govahrin-check-promise =
           let (at, from) = p .1 in
           let (at′, from′) = q .1 in
           (same (p .0) (q .0), λ i. (tt, (tt, (same at at′ i, (same from from′ i, tt)))));
+    }
+
+-- The writer has one answer and one content of the text later, and the reader one of each for its list.
+pub govahrin-write-text-promise : Promise govahrin-write-text.ended govahrin-write-text.Reads.Asked govahrin-write-text.Reads.Learnt
+govahrin-write-text-promise =
+    record {
+      any = λ κs given. tt;
+      one = λ κs given answer answer′ left left′ asked p q. (same (p .0) (q .0), λ i. (tt, (same (p .1) (q .1) i, tt)));
+    }
+
+pub govahrin-read-text-promise : Promise govahrin-read-text.ended govahrin-read-text.Reads.Asked govahrin-read-text.Reads.Learnt
+govahrin-read-text-promise =
+    record {
+      any = λ κs given. tt;
+      one = λ κs given answer answer′ left left′ asked p q. (same (p .0) (q .0), λ i. (tt, (same (p .1) (q .1) i, tt)));
     }

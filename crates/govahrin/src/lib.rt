@@ -1,10 +1,11 @@
-// The C surface: plan and check over byte slices and plain numbers, for a host that links the archive libgovahrin.a.
+// The C surface: plan, check, and a list as text, over byte slices and plain numbers, for a host that links the archive libgovahrin.a.
 // Here the tick of a draw is four big-endian bytes; all else is as in the crates below. No function asks anything of its caller.
 mod ticks;
 
 use checker::Checked;
 use rules::Answer;
 use rules::MOST_DRAWS;
+use rules::Written;
 use ticks::put_ticks;
 use ticks::tick_places;
 ghost use mathlib.Core.Path.{_≡_};
@@ -12,6 +13,7 @@ ghost use Prim.Native.Nat.{_≤_};
 ghost use lib.ListN.{length};
 ghost use Rattle.rules.specs.Job.{call};
 ghost use Rattle.govahrin.specs.Reports.{Reports};
+ghost use Rattle.rules.specs.Text.{writeText, readText, writtenOf, bytesOf};
 ghost use Rattle.rules.specs.Refusals.{checked, checkedForC, planned, answerOf, ticksOf, slotsOf, tickBytes, writtenBy, lent};
 
 // The plan of a job, its list written into the room.
@@ -48,4 +50,22 @@ pub extern "C" fn govahrin_check(
     let checked = check_in(job, list, &mut row, places, slots);
     put_ticks(ticks, &row, checked.draws);
     checked.answer
+}
+
+// The text of a load list, written into the lent room.
+#[no_mangle]
+pub extern "C" fn govahrin_write_text(list: &[u8], text: &mut [u8]) -> Written
+    ensures answers { λ r. ⌜ r ≡ writtenOf (writeText (now (list .entry)) (length (now (text .entry)))) ⌝ }
+    ensures writes { λ r. ⌜ now (text .exit) ≡ lent (bytesOf (writeText (now (list .entry)) (length (now (text .entry))))) (now (text .entry)) ⌝ }
+{
+    text::write_text(list, text)
+}
+
+// The load list of a text, written into the lent room.
+#[no_mangle]
+pub extern "C" fn govahrin_read_text(text: &[u8], list: &mut [u8]) -> Written
+    ensures answers { λ r. ⌜ r ≡ writtenOf (readText (now (text .entry)) (length (now (list .entry)))) ⌝ }
+    ensures writes { λ r. ⌜ now (list .exit) ≡ lent (bytesOf (readText (now (text .entry)) (length (now (list .entry))))) (now (list .entry)) ⌝ }
+{
+    text::read_text(text, list)
 }

@@ -7,8 +7,11 @@ use contract.Lifetimes.{Lfts}
 use denote.Triple.Clauses.{Lasts, atExit}
 use borrow.Fn.World.{ArgsD}
 use Rattle.rules.specs.declared.Answer.{Answer}
+use Rattle.rules.specs.declared.Written.{Written}
 use Rattle.govahrin.proofs.govahrin_plan as govahrin-plan
 use Rattle.govahrin.proofs.govahrin_check as govahrin-check
+use Rattle.govahrin.proofs.govahrin_write_text as govahrin-write-text
+use Rattle.govahrin.proofs.govahrin_read_text as govahrin-read-text
 
 -- A call of `govahrin_plan` with this job, plan and room ended with this answer and left this in the room.
 pub record PlanOutcome (job : List ℕ) (plan : ℕ) (room : List ℕ) (answer : Answer) (room′ : List ℕ) : Type 0 where
@@ -33,3 +36,23 @@ pub record CheckOutcome (job list ticks slots : List ℕ) (answer : Answer) (tic
   pub with-slots : given .1 .1 .1 .0 .now ≡ slots
   pub left-ticks : left .1 .1 .0 ≡ ticks′
   pub left-slots : left .1 .1 .1 .0 ≡ slots′
+
+-- A call of `govahrin_write_text` with this list and room for its text ended with this answer and left this in the room.
+pub record WriteOutcome (list text : List ℕ) (answer : Written) (text′ : List ℕ) : Type 0 where
+  pub lifetimes : Lfts (govahrin-write-text.signature .lifetimes)
+  pub given : ArgsD govahrin-write-text.signature lifetimes
+  pub left : Lasts govahrin-write-text.ended lifetimes given
+  pub learnt : govahrin-write-text.Reads.Learnt lifetimes given answer (atExit govahrin-write-text.ended lifetimes given left)
+  pub with-list : given .0 .now ≡ list
+  pub with-text : given .1 .0 .now ≡ text
+  pub left-text : left .1 .0 ≡ text′
+
+-- A call of `govahrin_read_text` with this text and room for its list ended with this answer and left this in the room.
+pub record ReadOutcome (text list : List ℕ) (answer : Written) (list′ : List ℕ) : Type 0 where
+  pub lifetimes : Lfts (govahrin-read-text.signature .lifetimes)
+  pub given : ArgsD govahrin-read-text.signature lifetimes
+  pub left : Lasts govahrin-read-text.ended lifetimes given
+  pub learnt : govahrin-read-text.Reads.Learnt lifetimes given answer (atExit govahrin-read-text.ended lifetimes given left)
+  pub with-text : given .0 .now ≡ text
+  pub with-list : given .1 .0 .now ≡ list
+  pub left-list : left .1 .0 ≡ list′
