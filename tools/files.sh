@@ -1,6 +1,6 @@
 # What the front end reads and writes. It reads no more of a file than its format has, plus one byte; it writes an answer only when
 # it has all of it, and says so where that cannot be done.
-most_job=8331 most_list=28680 most_text=1048577
+most_job=8331 most_list=28680 most_lines=262145 most_text=1048577
 
 # A descriptor that is closed would be given to the next file that is opened, so the three are open from here on.
 input=open output=open

@@ -31,6 +31,21 @@ help_timeline() {
 TEXT
 }
 
+help_text() {
+    cat <<'TEXT'
+  govahrin text SHEET.list [-o FILE]
+      A load list as text, an event a line: tick, slot and symbol in decimal, one blank between, a line feed after each. The list of no
+      events is the empty text.
+TEXT
+}
+
+help_list() {
+    cat <<'TEXT'
+  govahrin list SHEET.txt [-o FILE]
+      The load list of such a text, as bytes. A text that is refused: which line it is, counted from 0, and what is wrong with it.
+TEXT
+}
+
 help_job() {
     cat <<'TEXT'
   govahrin job K F STARTS DRAWS [-o FILE]
@@ -45,6 +60,7 @@ help_show() {
     cat <<'TEXT'
   govahrin show FILE [--names FILE]
       A job in decimals, in the form that `govahrin job` takes; a load list as lines: tick, slot, symbol, and its name where it is known.
+      Without such names they are the list's text.
 TEXT
 }
 
@@ -59,20 +75,22 @@ help_common() {
     cat <<'TEXT'
 
 A file may be - for standard input; one whose name begins with a dash may be written ./-name, or after a word --.
+SHEET.list may be the text of a list wherever a list is read but in `govahrin text`: its first byte, a digit, tells. An empty file is the
+empty text to `govahrin list` alone, and no list.
 -o FILE writes FILE whole or not at all. --names FILE has symbols' names, a line each: the number, a blank, the name; the file
-SHEET.names beside SHEET.job is taken by itself.
+SHEET.names beside SHEET.job (for show: beside the file) is taken by itself.
 
 Exit status: 0 done; 1 the job or the list was refused; 2 anything else, with one line on standard error that says what.
-A refusal is the line `refused N D`, a line in words and, where it names an event or a draw, a line about that. It is said on
-standard output by the verbs that answer in words (summary, check, show), and on standard error by those that write a file's
-content (plan, job, timeline).
+A refusal is the line `refused N D`, a line in words and, where it names an event, a draw or a line, a line about that. It is said on
+standard output by the verbs that answer in words (summary, check, text, show), and on standard error by those that write a file's
+content (plan, list, job, timeline).
 TEXT
 }
 
 help_on() { # [VERB]
     out=''
     case ${1-} in
-    summary | plan | check | timeline | job | show | demo) surely_into answer help_verb "$1" ;;
+    summary | plan | check | timeline | text | list | job | show | demo) surely_into answer help_verb "$1" ;;
     '') surely_into answer help_all ;;
     *) fail "there is no verb $(shown "$1") (govahrin help names them)" ;;
     esac
@@ -87,7 +105,7 @@ help_verb() { # VERB
 help_all() {
     echo "govahrin: plan and check the symbol loads of a bridge display"
     echo
-    for verb_of_help in summary plan check timeline job show demo; do "help_$verb_of_help"; done
+    for verb_of_help in summary plan check timeline text list job show demo; do "help_$verb_of_help"; done
     printf '  govahrin help [VERB], govahrin VERB --help\n      This text, or the part on a verb.\n'
     printf '  govahrin --version\n      The version, the commit, the kit that the library is proved with.\n'
     help_common

@@ -20,13 +20,18 @@ is_program() { # FILE
         END { exit !(count == 64 && number(0, 4) == 1179403647 && number(40, 8) + number(58, 2) * number(60, 2) == size) }'
 }
 
-# Runs a program; its standard output is left at $scratch/NAME.
+# Runs a program; its standard output is left at $scratch/NAME, what it says on standard error in `aside`, and that without its last
+# line feed in `why`. The dot keeps the line feed, which tells a whole line from one that broke off.
 ask() { # NAME PROGRAM [WORDS]
     asked=$2
     is_program "$programs/$2" || fail "the program $(shown "$programs/$2") is not whole: $remedy"
     target=$scratch/$1
     shift 2
-    why=$({ "$root/tools/machine" run "$programs/$asked" "$@" >"$target"; } 2>&1) || fail "the program $asked ended with status $?${why:+: $why}"
+    why=$({ "$root/tools/machine" run "$programs/$asked" "$@" >"$target"; } 2>&1 && echo .) ||
+        fail "the program $asked ended with status $?${why:+: $why}"
+    aside=${why%.}
+    why=${aside%"
+"}
 }
 
 not_in_full() { fail "the program $asked did not answer in full${why:+: $why}"; }
@@ -66,6 +71,35 @@ plan_by() { # PLAN
 is_list() { # NAME
     events=$(number_at "$1" 5 2)
     [ -n "$events" ] && [ "$(number_at "$1" 0 4)" -eq $((3 + 7 * events)) ] && [ "$(wc -c <"$scratch/$1")" -eq $((7 + 7 * events)) ]
+}
+
+# Has the text of a list made, or the list of a text: of FROM in the temporary folder, left at TO. A refusal is its line and its words on
+# standard error, left at $scratch/said, and nothing else.
+turn_into() { # text or list, FROM, TO
+    ask "$3" text_sheet "$1" "$scratch/$2"
+    if [ -n "$aside" ]; then
+        [ ! -s "$scratch/$3" ] || not_in_full
+        surely_into said printf '%s' "$aside"
+        why=''
+        believe said refusal 0
+        return
+    fi
+    verdict=accepted
+    "is_whole_$1" "$2" "$3" || not_in_full
+}
+
+# Has the text a line for each event of the list?
+is_whole_text() { # LIST TEXT
+    events=$(number_at "$1" 5 2)
+    [ -n "$events" ] || return 1
+    [ "$events" -gt 0 ] || { [ ! -s "$scratch/$2" ]; return; }
+    believe "$2" text "$events"
+    [ "$verdict" = accepted ]
+}
+
+# Has the list an event for each line of the text?
+is_whole_list() { # TEXT LIST
+    is_list "$2" && [ "$events" -eq "$(wc -l <"$scratch/$1")" ]
 }
 
 # The job at $scratch/sheet.job with a list of no events: refused 1 to 5 exactly where the job is.

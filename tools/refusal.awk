@@ -2,7 +2,15 @@
 # It says nothing of a refusal that names neither.
 
 function symbolOf(symbol) { return "symbol " symbol (symbol in nameOf ? ", " nameOf[symbol] : "") }
-function eventOf(i) { return "event " i " (tick " eventTick[i] ", slot " eventSlot[i] ", " symbolOf(eventSymbol[i]) "): " }
+
+# A tick in digits. In a text it may have more of them than an awk's number has; of a list's great number an awk may make an exponent.
+function digitsOf(tick) { return tick ~ /^[0-9]+$/ ? tick "" : sprintf("%.0f", tick) }
+function tickOf(i,   digits) {
+    digits = digitsOf(eventTick[i])
+    return length(digits) > 40 ? substr(digits, 1, 40) ".." : digits
+}
+
+function eventOf(i) { return "event " i " (tick " tickOf(i) ", slot " eventSlot[i] ", " symbolOf(eventSymbol[i]) "): " }
 
 # The slot that holds a symbol after the first `begun` events, each of which has ended; -1 for none. The last event that took the
 # symbol out of a slot is left in takenBy, -1 for none.
@@ -18,7 +26,7 @@ function slotHolding(symbol, begun,   held, i) {
 }
 
 function badTick(i) {
-    return eventTick[i] > 8388607 ? "the last tick is 8388607" : "the event before it has tick " eventTick[i - 1]
+    return length(digitsOf(eventTick[i])) > 7 || eventTick[i] > 8388607 ? "the last tick is 8388607" : "the event before it has tick " eventTick[i - 1]
 }
 
 function loading(i) { return "event " i " loads " symbolOf(eventSymbol[i]) " into slot " eventSlot[i] " until tick " eventTick[i] + loadTime }

@@ -2,15 +2,17 @@
 #   job, list   the file's bytes in decimal      names   a line a symbol: its number, a tab, its name
 #   run         `accepted ELAPSED WAITS LOADS LONGEST` and a line a draw, from check_sheet; of a refused list the draws before its refusal
 #   refused     the number and the detail of a refusal
+#   lines       a load list as text, in place of the part list: eventTick[], eventSlot[] and eventSymbol[] as they stand there
 # After readSheet() the job is slots, loadTime, draws, starting[] and drawn[], the list eventTick[], eventSlot[] and
 # eventSymbol[] for event 0 to events - 1, the run elapsed, waits, loads, longest, drawTick[] and drawSlot[] for draw 0 to made - 1.
 
-BEGIN { made = 0 }
+BEGIN { made = textLines = 0 }
 $1 == "part" { part = $2; next }
 part == "job" { for (i = 1; i <= NF; i++) jobByte[jobBytes++] = $i; next }
 part == "list" { for (i = 1; i <= NF; i++) listByte[listBytes++] = $i; next }
 part == "names" { nameOf[$1] = substr($0, index($0, "\t") + 1); next }
 part == "refused" { refusal = $1 + 0; detail = $2 + 0; next }
+part == "lines" { eventTick[textLines] = $1; eventSlot[textLines] = $2; eventSymbol[textLines++] = $3; next }
 part == "run" && $1 == "accepted" { elapsed = $2 + 0; waits = $3 + 0; loads = $4 + 0; longest = $5 + 0; next }
 part == "run" { drawTick[made] = $3 + 0; drawSlot[made++] = $4 + 0 }
 

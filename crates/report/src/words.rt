@@ -2,7 +2,7 @@
 use crate::line::say;
 use crate::line::say_number;
 
-// A line about an event or a draw: what it is, its number, and what is wrong with it.
+// A line about an event, a draw or a line of a text: what it is, its number, and what is wrong with it.
 fn say_of(to: i32, what: &[u8], detail: u32, wrong: &[u8]) -> bool {
     say(to, what) && say_number(to, detail) && say(to, wrong)
 }
@@ -32,7 +32,7 @@ fn say_whole(to: i32, number: u32) -> bool {
     }
 }
 
-// Refusals 8 to 15, of a list or a run.
+// Refusals 8 to 16, of a list, a run or a text.
 fn say_run(to: i32, number: u32, detail: u32) -> bool {
     match number {
         8 => say(
@@ -65,6 +65,12 @@ fn say_run(to: i32, number: u32, detail: u32) -> bool {
             b" would wait for ever: its symbol is in no slot, no load is under way and no event is left\n",
         ),
         14 => say_of(to, b"event", detail, b" is left when all draws are done\n"),
+        16 => say_of(
+            to,
+            b"line",
+            detail,
+            b" is not tick, slot and symbol in decimal with one blank between and a line feed, or its slot is over 255, its symbol over 65535, or it is one line too many\n",
+        ),
         _ => say(to, b"the plan would take more than 8,388,607 ticks\n"),
     }
 }

@@ -1,10 +1,12 @@
 // The worked cases of document 01, built in: checks and plans of its rows, every edge that it names, where the longest wait can be, a case
-// for each refusal number, and the largest job. Each is a line, and `stdout` has what every line must be.
+// for each refusal number, the largest job, and lists as text (document 02, "Three"). Each is a line, and `stdout` has what every line must be.
 mod check_case;
 mod checks;
 mod make;
 mod plan_case;
 mod plans;
+mod text_case;
+mod texts;
 
 fn main() {
     checks::rows();
@@ -18,4 +20,8 @@ fn main() {
     plans::refused_jobs();
     plans::refused_calls();
     plans::largest();
+    texts::written();
+    texts::refused_lists();
+    texts::read();
+    texts::refused_texts();
 }

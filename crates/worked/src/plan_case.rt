@@ -6,7 +6,7 @@ use report::say_number;
 use rules::ListReading;
 
 // The length is that of the list in these bytes, as the check would read it.
-fn say_list(list: &[u8]) {
+pub fn say_list(list: &[u8]) {
     let head = sheet::read_list(list);
     let ListReading::Listed(count) = head else {
         say(STDOUT_FILENO, b"; no list");
