@@ -1,52 +1,11 @@
 // Random cases from a seed: jobs and lists, whole and damaged in every field, from empty to the limits; lists that a
 // plan made, lists of a player who loads strange symbols into strange slots, and both with events changed.
+use crate::dice::Dice;
 use crate::rules::{follow, job_bytes, judge_ticks, list_bytes, planned, Display, Event, Job, FREE, LAST_TICK};
 use crate::text::{check_case, plan_case};
-use std::io::{self, Write};
 
-/// Every case has dice of its own, so that case number i of a seed is the same whatever the count.
-struct Dice(u64);
-
-impl Dice {
-    fn new(seed: u64, case: u64) -> Dice {
-        let mut dice = Dice(seed.wrapping_mul(0x9e37_79b9_7f4a_7c15) ^ case.wrapping_mul(0xd1b5_4a32_d192_ed03));
-        dice.word();
-        dice
-    }
-
-    /// The splitmix64 generator.
-    fn word(&mut self) -> u64 {
-        self.0 = self.0.wrapping_add(0x9e37_79b9_7f4a_7c15);
-        let mut z = self.0;
-        z = (z ^ (z >> 30)).wrapping_mul(0xbf58_476d_1ce4_e5b9);
-        z = (z ^ (z >> 27)).wrapping_mul(0x94d0_49bb_1331_11eb);
-        z ^ (z >> 31)
-    }
-
-    /// A number from `low` to `high`, both included.
-    fn between(&mut self, low: u64, high: u64) -> u64 {
-        low + self.word() % (high - low + 1)
-    }
-
-    fn one_in(&mut self, sides: u64) -> bool {
-        self.word() % sides == 0
-    }
-
-    fn of<T: Copy>(&mut self, choices: &[T]) -> T {
-        choices[self.between(0, choices.len() as u64 - 1) as usize]
-    }
-
-    fn place(&mut self, length: usize) -> usize {
-        self.between(0, length.max(1) as u64 - 1) as usize
-    }
-}
-
-pub fn write(seed: u64, count: u64, out: &mut impl Write) -> io::Result<()> {
-    for case in 0..count {
-        let mut dice = Dice::new(seed, case);
-        writeln!(out, "{}", if dice.one_in(3) { a_plan(&mut dice) } else { a_check(&mut dice) })?;
-    }
-    Ok(())
+pub fn a_case(dice: &mut Dice) -> String {
+    if dice.one_in(3) { a_plan(dice) } else { a_check(dice) }
 }
 
 // ---- jobs
@@ -186,7 +145,7 @@ fn change(dice: &mut Dice, job: &Job, events: &mut Vec<Event>) {
 }
 
 /// A tick about the limit. The limit itself is rare: a list that keeps it is eight million ticks long.
-fn far_tick(dice: &mut Dice) -> u64 {
+pub fn far_tick(dice: &mut Dice) -> u64 {
     if dice.one_in(60) {
         return LAST_TICK - dice.between(0, 1);
     }
@@ -230,7 +189,7 @@ fn spoil(dice: &mut Dice, job: &mut Job) {
 
 /// One change of the bytes of a job or a list, whose head is `head` bytes long. Half the time the length is made to
 /// fit again, so that what is behind it is judged.
-fn damage(dice: &mut Dice, head: usize, bytes: &mut Vec<u8>) {
+pub fn damage(dice: &mut Dice, head: usize, bytes: &mut Vec<u8>) {
     let i = dice.place(bytes.len());
     match dice.between(0, 8) {
         0 => bytes.clear(),
@@ -264,7 +223,7 @@ fn bytes_of_job(dice: &mut Dice, job: &Job, damaged_in: u64) -> Vec<u8> {
 }
 
 /// Lent room about the size that is needed.
-fn room(dice: &mut Dice, needed: usize) -> usize {
+pub fn room(dice: &mut Dice, needed: usize) -> usize {
     match dice.between(0, 29) {
         0 => needed.saturating_sub(1),
         1 => dice.place(needed + 1),

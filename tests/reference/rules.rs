@@ -367,3 +367,60 @@ fn conservative(job: &Job) -> Run {
         Some(display.load(event.slot, event.symbol))
     })
 }
+
+// ---- a list as text, one event a line
+
+/// The writer: refusals 8, 9, 7.
+pub fn write_text(list: &[u8], room: usize) -> Result<Vec<u8>, Refusal> {
+    let events = read_list(list)?;
+    judge_ticks(&events)?;
+    let text = text_of(&events);
+    if room < text.len() { refuse(7, 0) } else { Ok(text) }
+}
+
+/// The reader: refusals 16 over the whole text, 9, 7.
+pub fn read_text(text: &[u8], room: usize) -> Result<Vec<u8>, Refusal> {
+    let events = read_lines(text)?;
+    judge_ticks(&events)?;
+    let list = list_bytes(&events);
+    if room < list.len() { refuse(7, 0) } else { Ok(list) }
+}
+
+pub fn text_of(events: &[Event]) -> Vec<u8> {
+    let line = |event: &Event| format!("{} {} {}\n", event.tick, event.slot, event.symbol);
+    events.iter().map(line).collect::<String>().into_bytes()
+}
+
+/// Refusal 16, of the first bad line. After the last line feed nothing is left, else that is a line without its end.
+fn read_lines(text: &[u8]) -> Result<Vec<Event>, Refusal> {
+    let mut lines: Vec<&[u8]> = text.split(|&byte| byte == b'\n').collect();
+    let rest = lines.pop().expect("what is after the last line feed");
+    let mut events = vec![];
+    for (i, line) in lines.iter().enumerate() {
+        match read_line(line) {
+            Some(event) if i < MOST_EVENTS => events.push(event),
+            _ => return refuse(16, i),
+        }
+    }
+    if rest.is_empty() { Ok(events) } else { refuse(16, lines.len()) }
+}
+
+/// A line without its line feed.
+fn read_line(line: &[u8]) -> Option<Event> {
+    let words: Vec<&[u8]> = line.split(|&byte| byte == b' ').collect();
+    let [tick, slot, symbol] = words[..] else { return None };
+    let (tick, slot, symbol) = (decimal(tick)?, decimal(slot)?, decimal(symbol)?);
+    if slot > 255 || symbol > 65535 {
+        return None;
+    }
+    Some(Event { tick, slot: slot as usize, symbol: symbol as u16 })
+}
+
+/// A number of any length; one that is too great for 64 bits is the greatest of them, which no limit allows.
+fn decimal(word: &[u8]) -> Option<u64> {
+    let digits = !word.is_empty() && word.iter().all(|byte| byte.is_ascii_digit());
+    if !digits || (word.len() > 1 && word[0] == b'0') {
+        return None;
+    }
+    Some(word.iter().fold(0u64, |sum, byte| sum.saturating_mul(10).saturating_add((byte - b'0') as u64)))
+}

@@ -1,5 +1,5 @@
 // Cases and answers as lines of text, in the form of tests/vectors: bytes in hexadecimal, `-` for none.
-use crate::rules::{check, list_bytes, plan, read_job, planned, Event, Refusal, Run, PLAN_NAMES};
+use crate::rules::{check, list_bytes, plan, planned, read_job, read_text, write_text, Event, Refusal, Run, PLAN_NAMES};
 
 pub fn hex(bytes: &[u8]) -> String {
     if bytes.is_empty() {
@@ -38,6 +38,21 @@ pub fn check_case(job: &[u8], list: &[u8], ticks: usize, slots: usize) -> String
     format!("check {} {} {ticks} {slots}", hex(job), hex(list))
 }
 
+pub fn write_case(list: &[u8], room: usize) -> String {
+    format!("text-write {} {room}", hex(list))
+}
+
+pub fn read_case(text: &[u8], room: usize) -> String {
+    format!("text-read {} {room}", hex(text))
+}
+
+fn written(result: Result<Vec<u8>, Refusal>) -> String {
+    match result {
+        Ok(bytes) => format!("0 0 {}", hex(&bytes)),
+        Err(refusal) => format!("{} {} -", refusal.number, refusal.detail),
+    }
+}
+
 /// The answer to one case: the whole line of a vector, `CASE => ANSWER`.
 pub fn answered(line: &str) -> String {
     let case = line.split(" => ").next().unwrap().trim();
@@ -53,7 +68,9 @@ pub fn answered(line: &str) -> String {
             Err(refusal) => refused(refusal, "- -"),
         },
         "summary" => summary(&bytes(words[1])),
-        word => panic!("a case begins with plan, check or summary, not with {word}"),
+        "text-write" => written(write_text(&bytes(words[1]), size(2))),
+        "text-read" => written(read_text(&bytes(words[1]), size(2))),
+        word => panic!("a case begins with plan, check, summary, text-write or text-read, not with {word}"),
     };
     format!("{case} => {answer}")
 }
@@ -75,6 +92,14 @@ fn summary(input: &[u8]) -> String {
 /// A case in words, for a person who looks at one that failed.
 pub fn in_words(line: &str) -> String {
     let words: Vec<&str> = line.split(" => ").next().unwrap().trim().split(' ').collect();
+    match words[0] {
+        "text-write" => format!("text-write into {} bytes\n  list {}", words[2], events_in_words(&bytes(words[1]))),
+        "text-read" => format!("text-read into {} bytes\n{}", words[2], lines_in_words(&bytes(words[1]))),
+        _ => run_in_words(&words),
+    }
+}
+
+fn run_in_words(words: &[&str]) -> String {
     let job = match read_job(&bytes(words[1])) {
         Ok(job) => format!("k {} F {} starts {:?} draws {:?}", job.starts.len(), job.load_time, job.starts, job.draws),
         Err(refusal) => format!("a job refused with {}", refusal.number),
@@ -89,4 +114,11 @@ fn events_in_words(list: &[u8]) -> String {
     let body = list.get(7..).unwrap_or(&[]);
     let events: Vec<String> = body.chunks_exact(7).map(event).map(|e| format!("{}/{}/{}", e.tick, e.slot, e.symbol)).collect();
     format!("{} bytes, as tick/slot/symbol: {}", list.len(), events.join(", "))
+}
+
+/// The lines of a text with their numbers, so that a blank or a byte that cannot be seen is seen.
+fn lines_in_words(text: &[u8]) -> String {
+    let lines = text.split_inclusive(|&byte| byte == b'\n').enumerate();
+    let line = |(i, line): (usize, &[u8])| format!("  line {i}: \"{}\"", line.escape_ascii());
+    format!("  {} bytes\n{}", text.len(), lines.map(line).collect::<Vec<_>>().join("\n"))
 }
