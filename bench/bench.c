@@ -1,12 +1,13 @@
-/* Times the library and the plain C program on the same jobs in one process, turn about, and stops if they ever answer
-   differently. Writes a line a repeat: sheet, call, n, k, F, then the nanoseconds of the library and of the plain program. */
+/* Times the library and the plain C program on the same inputs in one process, turn about, and stops if they ever answer
+   differently. Writes a line a repeat: sheet, call, n, k, F, then the nanoseconds of the library and of the plain program.
+   For a text n is the number of events, and k and F are 0. */
 #include "shared.h"
 #include <stdio.h>
 #include <stdlib.h>
 
 enum { REPEATS = 5, SHORTEST = 8000000 };
 
-static const char *const names[] = {"aggressive", "conservative", "opt", "lru", "check"};
+static const char *const names[] = {"aggressive", "conservative", "opt", "lru", "check", "write", "read"};
 
 /* What the check is given where no other list is made: the list of conservative. */
 static void put_conservative(void)
@@ -77,11 +78,37 @@ static void make_longest(void)
     put_event(0, GOVAHRIN_LAST_TICK, 63, 999);
 }
 
+/* A list with all sizes of numbers: ticks that come to a million, any slot, any symbol; and its text. */
+static void make_text(unsigned events)
+{
+    unsigned i;
+    uint32_t tick = 0;
+    input.n = events;
+    input.k = input.f = 0;
+    put_list(events);
+    for (i = 0; i < events; i++) {
+        put_event(i, tick, dice(256), dice(65536));
+        tick += 1 + dice(500);
+    }
+    put_text();
+}
+
+/* The longest text: every line has its 18 bytes. */
+static void make_wide(void)
+{
+    unsigned i;
+    input.n = 4096;
+    input.k = input.f = 0;
+    put_list(4096);
+    for (i = 0; i < 4096; i++) put_event(i, GOVAHRIN_LAST_TICK - 4095 + i, 255, 65535 - i % 1000);
+    put_text();
+}
+
 static void row(const char *sheet, int what)
 {
     double mine = 0, theirs, one;
     unsigned i, calls, n = input.n, k = input.k, f = input.f;
-    if (!agree(what) || ours.answer.number) {
+    if (!agree(what) || ours.answer.number || ours.written.number) {
         fprintf(stderr, "bench: the library and the plain program answer differently: %s, %s, n %u, k %u, F %u\n", sheet,
                 names[what], n, k, f);
         exit(1);
@@ -115,6 +142,20 @@ static void worst(unsigned n, unsigned k, unsigned f)
     row("worst", CHECK);
 }
 
+static void texts(void)
+{
+    static const unsigned events[] = {64, 512, 4096};
+    unsigned i;
+    for (i = 0; i < 3; i++) {
+        make_text(events[i]);
+        row("text", WRITE);
+        row("text", READ);
+    }
+    make_wide();
+    row("wide", WRITE);
+    row("wide", READ);
+}
+
 int main(void)
 {
     unsigned i;
@@ -132,5 +173,6 @@ int main(void)
     for (i = 0; i < 5; i++) worst(n[i], 64, 1);
     for (i = 0; i < 4; i++) worst(1024, k[i], 1);
     worst(1024, 64, 1000);
+    texts();
     return 0;
 }

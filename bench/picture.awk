@@ -44,7 +44,7 @@ function ratios(top, title, kind, calls,   count, call, i, w, y, tall, part, v) 
         y = top + (i - 1) * tall
         if ((kind, order[kind, i]) in missed) band(6, y, 468, tall, "#fbdcdc")
         else if (i % 2) band(6, y, 468, tall, "#f1f1f1")
-        text(10, y + tall / 2 + 5, 13, "start", "n " part[1] ", k " part[2] ", F " part[3],
+        text(10, y + tall / 2 + 5, 13, "start", part[2] ? "n " part[1] ", k " part[2] ", F " part[3] : part[1] " events",
             (kind, order[kind, i]) in missed ? " font-weight=\"bold\"" : "")
     }
     y = top + sheets[kind] * tall
@@ -101,6 +101,8 @@ BEGIN {
     calls = split(all, name, " ")
     split("#000000 #d55e00 #0072b2 #009e73 #cc79a7", tints, " ")
     for (w = 1; w <= calls; w++) colour[name[w]] = tints[w]
+    colour["write"] = "#0072b2"
+    colour["read"] = "#d55e00"
 }
 
 END {
@@ -124,6 +126,7 @@ END {
     y = ratios(98, "Sheets like charts", "chart", all)
     y = ratios(y, "Sheets with all draws different", "different", all)
     y = ratios(y, "Sheets made to slow check and aggressive", "worst", "check aggressive")
+    y = ratios(y, "Texts: written (blue) and read (orange)", "text", "write read")
     y += 18
     text(10, y, 16, "start", "Growth: time as a multiple of the smallest size's", " font-weight=\"bold\"")
     text(10, y + 20, 13, "start", "Solid: the library; dashed: the plain C program. Colours as above.", "")

@@ -1,10 +1,10 @@
-/* The rules of document 01 in plain C, as a careful programmer would write them for reading: one tick at a time, each
-   slot search a scan over the slots, each next-draw search a scan over the remaining draws. The benchmark holds the
-   library against it. */
+/* The rules of documents 01 and 02 in plain C, as a careful programmer would write them for reading: one tick at a time,
+   each slot search a scan over the slots, each next-draw search a scan over the remaining draws, a text read once from
+   its first byte to its last. The benchmark holds the library against it. */
 #include "plain.h"
 
 enum { MOST_SLOTS = 64, MOST_LOAD_TIME = 1000, MOST_DRAWS = 4096, MOST_EVENTS = 4096, LAST_TICK = 8388607 };
-enum { NOTHING = 65535 };
+enum { NOTHING = 65535, LAST_SLOT = 255, LAST_SYMBOL = 65535 };
 
 struct job {
     uint32_t slots, load_time, draws;
@@ -95,6 +95,13 @@ static struct event read_event(const uint8_t *list, uint32_t place)
     event.slot = at[4];
     event.symbol = two(at + 5);
     return event;
+}
+
+static void write_head(uint8_t *list, uint32_t events)
+{
+    put_four(list, 3 + 7 * events);
+    list[4] = 1;
+    put_two(list + 5, events);
 }
 
 static void write_event(uint8_t *list, uint32_t place, struct event event)
@@ -342,9 +349,107 @@ govahrin_answer plain_plan(const uint8_t *job_bytes, size_t job_len, uint32_t pl
     if (plan == 1) run(2, &job, 0, &opts);
     answer = run(plan, &job, &opts, &made);
     if (answer.number) return answer;
-    put_four(room, 3 + 7 * made.count);
-    room[4] = 1;
-    put_two(room + 5, made.count);
+    write_head(room, made.count);
     for (i = 0; i < made.count; i++) write_event(room, i, made.load[i]);
     return answer;
+}
+
+/* ---- a list as text */
+
+static govahrin_written not_written(uint32_t number, uint32_t detail)
+{
+    govahrin_written answer = {number, detail, 0};
+    return answer;
+}
+
+static govahrin_written written(size_t size)
+{
+    govahrin_written answer = {0, 0, (uint32_t)size};
+    return answer;
+}
+
+static uint32_t digits_of(uint32_t number)
+{
+    uint32_t digits = 1;
+    for (; number >= 10; number /= 10) digits++;
+    return digits;
+}
+
+static size_t line_size(struct event event)
+{
+    return digits_of(event.tick) + 1 + digits_of(event.slot) + 1 + digits_of(event.symbol) + 1;
+}
+
+/* A number and the byte after it; answers the place after both. */
+static uint8_t *put_field(uint8_t *at, uint32_t number, uint8_t stop)
+{
+    uint32_t i, digits = digits_of(number);
+    for (i = digits; i > 0; i--, number /= 10) at[i - 1] = (uint8_t)('0' + number % 10);
+    at[digits] = stop;
+    return at + digits + 1;
+}
+
+govahrin_written plain_write_text(const uint8_t *list, size_t list_len, uint8_t *text, size_t text_len)
+{
+    uint32_t i, events;
+    size_t size = 0;
+    if (!list_is_right(list, list_len)) return not_written(8, 0);
+    events = two(list + 5);
+    i = first_unruly(list, events);
+    if (i < events) return not_written(9, i);
+    for (i = 0; i < events; i++) size += line_size(read_event(list, i));
+    if (text_len < size) return not_written(7, 0);
+    for (i = 0; i < events; i++) {
+        struct event event = read_event(list, i);
+        text = put_field(text, event.tick, ' ');
+        text = put_field(text, event.slot, ' ');
+        text = put_field(text, event.symbol, '\n');
+    }
+    return written(size);
+}
+
+/* A text and the place up to which it is read. */
+struct reader {
+    const uint8_t *text;
+    size_t length, at;
+};
+
+/* Reads a number and the byte after it; answers whether both are in the shape. A number over most is read as most + 1. */
+static int read_field(struct reader *reader, uint8_t stop, uint32_t most, uint32_t *number)
+{
+    const size_t first = reader->at;
+    size_t at = first;
+    uint32_t sum = 0;
+    while (at < reader->length && reader->text[at] >= '0' && reader->text[at] <= '9') {
+        sum = 10 * sum + (uint32_t)(reader->text[at] - '0');
+        if (sum > most) sum = most + 1;
+        at++;
+    }
+    if (at == first || (reader->text[first] == '0' && at > first + 1)) return 0;
+    if (at == reader->length || reader->text[at] != stop) return 0;
+    *number = sum;
+    reader->at = at + 1;
+    return 1;
+}
+
+static int read_line(struct reader *reader, struct event *event)
+{
+    if (!read_field(reader, ' ', LAST_TICK, &event->tick)) return 0;
+    if (!read_field(reader, ' ', LAST_SLOT, &event->slot) || event->slot > LAST_SLOT) return 0;
+    return read_field(reader, '\n', LAST_SYMBOL, &event->symbol) && event->symbol <= LAST_SYMBOL;
+}
+
+govahrin_written plain_read_text(const uint8_t *text, size_t text_len, uint8_t *list, size_t list_len)
+{
+    struct event events[MOST_EVENTS];
+    struct reader reader = {text, text_len, 0};
+    uint32_t i, lines = 0;
+    for (; reader.at < text_len; lines++)
+        if (lines == MOST_EVENTS || !read_line(&reader, &events[lines])) return not_written(16, lines);
+    for (i = 0; i < lines; i++)
+        if (events[i].tick > LAST_TICK || (i > 0 && events[i].tick <= events[i - 1].tick)) return not_written(9, i);
+    if (list_len < 7 + 7 * (size_t)lines) return not_written(7, 0);
+    write_head(list, lines);
+    for (i = 0; i < lines; i++) write_event(list, i, events[i]);
+    return written(7 + 7 * (size_t)lines);
 }

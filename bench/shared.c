@@ -46,9 +46,25 @@ void put_event(unsigned place, uint32_t tick, unsigned slot, unsigned symbol)
     put(input.list + 12 + 7 * place, 2, symbol);
 }
 
+void put_text(void) { input.text_len = plain_write_text(input.list, input.list_len, input.text, TEXT_ROOM).size; }
+
+static void call_text(int library, int what, struct output *o)
+{
+    if (what == WRITE && library)
+        o->written = govahrin_write_text(input.list, input.list_len, o->text, TEXT_ROOM);
+    else if (what == WRITE)
+        o->written = plain_write_text(input.list, input.list_len, o->text, TEXT_ROOM);
+    else if (library)
+        o->written = govahrin_read_text(input.text, input.text_len, o->room, ROOM);
+    else
+        o->written = plain_read_text(input.text, input.text_len, o->room, ROOM);
+}
+
 static void call(int library, int what, struct output *o)
 {
-    if (what == CHECK && library)
+    if (what == WRITE || what == READ)
+        call_text(library, what, o);
+    else if (what == CHECK && library)
         o->answer = govahrin_check(input.job, input.job_len, input.list, input.list_len, o->ticks, sizeof o->ticks,
                                    o->slots, sizeof o->slots);
     else if (what == CHECK)
