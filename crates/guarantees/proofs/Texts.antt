@@ -78,7 +78,8 @@ module _ (room : List ℕ) {answer : Written} {room′ : List ℕ} (w : Writing)
 -- What the writer made of a list of bytes, handed to the reader with room enough, comes back as the same bytes.
 pub written-list-reads-back : {list text : List ℕ} {answer : Written} {text′ : List ℕ} → WriteOutcome list text answer text′ → answer .number ≡ 0
     → Bytes list
-    → {room : List ℕ} {again : Written} {room′ : List ℕ} → ReadOutcome (take (answer .size) text′) room again room′ → length list ≤ length room
+    → {room : List ℕ} {again : Written} {room′ : List ℕ} → ReadOutcome (take (answer .size) text′) room again room′
+    → length list ≤ length room
     → Wrote list room again room′
 written-list-reads-back {list} {text} {answer} {text′} o done bytes {room} r enough =
     let made : writeText list (length text) ≡ wrote (textOf (eventsOf list)) =
@@ -90,7 +91,8 @@ written-list-reads-back {list} {text} {answer} {text′} o done bytes {room} r e
 
 -- A text that was read, written again with room enough, comes back as that text.
 pub read-text-writes-back : {text list : List ℕ} {answer : Written} {list′ : List ℕ} → ReadOutcome text list answer list′ → answer .number ≡ 0
-    → {room : List ℕ} {again : Written} {room′ : List ℕ} → WriteOutcome (take (answer .size) list′) room again room′ → length text ≤ length room
+    → {room : List ℕ} {again : Written} {room′ : List ℕ} → WriteOutcome (take (answer .size) list′) room again room′
+    → length text ≤ length room
     → Wrote text room again room′
 read-text-writes-back {text} {list} {answer} {list′} o done {room} w enough =
     let made : readText text (length list) ≡ wrote (listBytes (eventsRead text)) =

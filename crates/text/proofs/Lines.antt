@@ -112,7 +112,8 @@ module _ (text : List ℕ) (from : ℕ) where
             ends = ends;
             line-is =
                 ap (withTick part-of-line) is
-                ∙ ap (λ (l : List ℕ). withSlot part-of-line n size (readField blank l)) (drop-drop size from text ∙ ap (λ (m : ℕ). drop m text) (sym ends));
+                ∙ ap (λ (l : List ℕ). withSlot part-of-line n size (readField blank l))
+                (drop-drop size from text ∙ ap (λ (m : ℕ). drop m text) (sym ends));
           }
 
   module _ (tick slot-at : ℕ) (before : TickRead tick slot-at) where
@@ -133,7 +134,8 @@ module _ (text : List ℕ) (from : ℕ) where
       pub ends : after ≡ from + size
       pub line-is : readLine part-of-line ≡ withSymbol (before .number) slot size (readField line-feed (drop after text))
 
-    pub slot-read : (slot after : ℕ) → Field slot after ≡ fieldFound slot-at (readField blank (drop slot-at text)) → slot ≤ last-slot → SlotRead slot after
+    pub slot-read : (slot after : ℕ) → Field slot after ≡ fieldFound slot-at (readField blank (drop slot-at text)) → slot ≤ last-slot
+        → SlotRead slot after
     slot-read slot after e low = by-reading (readField blank (drop slot-at text)) refl (as-found slot-at slot after (readField blank (drop slot-at text)) e)
       where
         by-reading : (f : FieldReading) → readField blank (drop slot-at text) ≡ f → FoundAs slot-at slot after f → SlotRead slot after

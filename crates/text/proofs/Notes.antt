@@ -126,7 +126,8 @@ module _ (text row : List ℕ) where
         append-assoc (take 7 row) (eventsBytes (map keptEvent (noted .events))) (eventBytes e′)
         ∙ ap (λ (r : List ℕ). take 7 row ++ r)
         (sym (events-snoc (map keptEvent (noted .events)) e′)
-        ∙ ap eventsBytes (ap (λ (k : Event). map keptEvent (noted .events) ++ (k ∷ [])) (sym is) ∙ sym (map-append keptEvent (noted .events) (e ∷ []))))
+        ∙ ap eventsBytes
+        (ap (λ (k : Event). map keptEvent (noted .events) ++ (k ∷ [])) (sym is) ∙ sym (map-append keptEvent (noted .events) (e ∷ []))))
 
     -- The head over the first seven bytes makes the list.
     headed : putHead count row′ ≡ lent (listBytes (map keptEvent (noted .events))) row

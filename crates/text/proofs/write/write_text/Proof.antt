@@ -96,7 +96,8 @@ returns-4 c =
     writes _ (room p) (writeTests (list p) (length (room p))) (textOf (eventsOf (list p))) _ (t .text-size .result) (c .wrote .ensures)
     (same-size (list p) (head .result) (length (room p)) (count p) (f .first-bad-tick .result) (head .ensures) (read p) (f .first-bad-tick .ensures) right
     (t .text-size .result) (t .text-size .ensures .0))
-    (w .put-lines .ensures ∙ ap (λ (l : List Event). lent (textOf l) (room p)) (sym (same-events (list p) (head .result) (count p) (head .ensures) (read p))))
+    (w .put-lines .ensures
+    ∙ ap (λ (l : List Event). lent (textOf l) (room p)) (sym (same-events (list p) (head .result) (count p) (head .ensures) (read p))))
     (text-fits (list p) (head .result) (length (room p)) (count p) (f .first-bad-tick .result) (head .ensures) (read p) (f .first-bad-tick .ensures) right
     (t .text-size .result) (t .text-size .ensures .0) fits)
 
