@@ -3,23 +3,19 @@ use Prim.Native.Nat.{ℕ, _+_, _*_, _/_, _≤_}
 use native.Mathlib.Omega.{arith}
 use mathlib.Core.Path.{_≡_, refl, _∙_}
 use mathlib.Core.List.{List, [], _∷_, map}
-use lib.ListN.{length, length-append, length-map}
+use lib.ListN.{length, length-map}
 use Rattle.rules.specs.Job.{Call, shapeOf, drawsOf, jobOf}
-use Rattle.rules.specs.LoadList.{Event, head-size, event-size, headBytes, eventsBytes, listBytes}
+use Rattle.rules.specs.LoadList.{head-size, event-size}
 use Rattle.rules.specs.Display.{Run, going, refused}
 use Rattle.rules.specs.Plans.{ruleOf}
 use Rattle.rules.specs.Refusals.{checked, checkedForC, planned, ticksOf, slotsOf, tickBytes, eventOf, writtenBy, answerOf}
 use Rattle.laws.proofs.Jobs.{proper}
 use Rattle.laws.proofs.Checks.{Accepted, accepted}
-use Rattle.laws.proofs.RoundTrip.{length-events}
+use Rattle.laws.proofs.RoundTrip.{length-list}
 use Rattle.plan_laws.proofs.Keeping.{Done}
 use Rattle.plan_laws.proofs.Plans.{Any, plan-done, planned-done}
 use Rattle.demands.proofs.Witness.{sheet-right}
 use Rattle.demands.proofs.Demand1.{plan-accepts}
-
--- A list takes seven bytes for its head and seven for each event.
-pub list-size : (l : List Event) → length (listBytes l) ≡ 7 + 7 * length l
-list-size l = omega (arith, length-append (headBytes (length l)) (eventsBytes l), length-events l)
 
 -- An accepted plan writes a head and an event for each of its loads, of which there are no more than draws.
 pub plan-size : (asked : Call) (plan room : ℕ) → answerOf (planned asked plan room) .number ≡ 0
@@ -30,7 +26,7 @@ plan-size asked plan room accepted =
     let d : Done (jobOf asked) (ruleOf (jobOf asked) plan) Any = plan-done (jobOf asked) (proper asked _ taken) plan in
     let begun : length (map eventOf (d .last .begun)) ≡ d .last .loads = length-map (d .last .begun) eventOf ∙ d .listed in
     rw (planned-done asked (shapeOf (asked .job)) plan room taken known enough d)
-    (omega (arith, list-size (map eventOf (d .last .begun))), d .few)
+    (omega (arith, length-list (map eventOf (d .last .begun))), d .few)
 
 -- What a plan writes fits into the room.
 pub plan-fits : (asked : Call) (plan room : ℕ) → length (writtenBy (planned asked plan room)) ≤ room

@@ -14,13 +14,12 @@ use Rattle.rules.specs.Refusals.{badList, firstBadTick, lent}
 use Rattle.rules.specs.Text.{textOf, TextReading, lines, badLine, readLines, linesOf, eventsRead, writeTests, readTests, Writing, wrote, refusedWith, writing}
 use Rattle.rules.specs.Text.{writeText, readText, writtenOf, bytesOf}
 use Rattle.laws.proofs.Verdicts.{has, never-met}
-use Rattle.laws.proofs.RoundTrip.{read-back}
+use Rattle.laws.proofs.RoundTrip.{length-list, read-back}
 use Rattle.plan_laws.proofs.Plans.{written-read}
 use Rattle.demands.specs.Table.{Gives, Quiet}
 use Rattle.demands.specs.TextWords.{InShape, writeRows, readRows}
 use Rattle.demands.proofs.Tables.{gives-met, met-gives, quiet-clear, clear-quiet}
 use Rattle.demands.proofs.WrittenAgain.{Bytes, written-again}
-use Rattle.demands.proofs.Fits.{list-size}
 use Rattle.demands.proofs.TextReads.{shape-read, read-shape}
 use Rattle.demands.proofs.TextRows.{write-words, testsAfter, tests-after, read-words, wrote-so, refused-so, WroteText, wrote-text, text-wrote}
 use Rattle.demands.proofs.TextRows.{ReadList, read-list, list-read}
@@ -46,7 +45,7 @@ pub written-reads-back : (list text : List ℕ) (room room′ : ℕ)
 written-reads-back list text room room′ bytes e enough =
     let w : WroteText list room text = wrote-text list room text e in
     let same : listBytes (eventsOf list) ≡ list = written-again list (w .listed) bytes in
-    let size : length list ≡ head-size + event-size * length (eventsOf list) = sym (ap length same) ∙ list-size (eventsOf list) in
+    let size : length list ≡ head-size + event-size * length (eventsOf list) = sym (ap length same) ∙ length-list (eventsOf list) in
     let read : linesOf text ≡ lines (eventsOf list) =
     ap linesOf (sym (w .made)) ∙ shape-read (textOf (eventsOf list)) (eventsOf list) (text-in-shape list (w .listed) bytes) in
     list-read text (eventsOf list) room′ read (w .ordered) (omega arith) ∙ ap wrote same
@@ -176,7 +175,7 @@ written-fits list text room e = let w : WroteText list room text = wrote-text li
 pub read-fits : (text list : List ℕ) (room : ℕ) → readText text room ≡ wrote list → length list ≤ room
 read-fits text list room e =
     let r : ReadList text room list = read-list text room list e in
-    let size : length list ≡ head-size + event-size * length (r .events) = sym (ap length (r .made)) ∙ list-size (r .events) in
+    let size : length list ≡ head-size + event-size * length (r .events) = sym (ap length (r .made)) ∙ length-list (r .events) in
     omega (arith, r .enough)
 
 -- 18 bytes to each event are room enough for the text of a list of bytes that meets neither 8 nor 9.

@@ -1,13 +1,13 @@
 -- What the writer makes of a list of events reads back as those events, and what it makes are bytes.
 use Prim.Native.Nat.{ℕ, suc, _+_, _*_, _-_, _/_, _%_, _<_, _≤_}
 use native.Mathlib.Omega.{arith}
-use mathlib.Core.Path.{_≡_, refl}
+use mathlib.Core.Path.{_≡_, refl, _∙_}
 use mathlib.Core.List.{List, [], _∷_, _++_, append-nil}
-use lib.ListN.{length}
+use lib.ListN.{length, length-append}
 use borrow.Author.Tests.{le-ltb, eq-eqb}
 use Rattle.rules.specs.declared.ListReading.the-variants.{Listed}
 use Rattle.rules.specs.Basics.{number16, number32, bytes16, bytes32}
-use Rattle.rules.specs.LoadList.{Event, event, most-events, eventsIn, eventsOf, eventsBytes, listBytes}
+use Rattle.rules.specs.LoadList.{Event, event, most-events, head-size, event-size, eventsIn, eventsOf, headBytes, eventsBytes, listBytes}
 use Rattle.rules.specs.Refusals.{readList}
 
 -- A number taken apart into four bytes, or two, and put together again.
@@ -26,6 +26,10 @@ pub length-events : (l : List Event) → length (eventsBytes l) ≡ 7 * length l
 unfolding eventsBytes
 length-events [] = refl
 length-events (event t q x ∷ l) = let more : length (eventsBytes l) ≡ 7 * length l = length-events l in omega arith
+
+-- A list takes seven bytes for its head and seven for each event.
+pub length-list : (l : List Event) → length (listBytes l) ≡ head-size + event-size * length l
+length-list l = length-append (headBytes (length l)) (eventsBytes l) ∙ rw (length-events l)
 
 -- The head reads back as the number of events, and the rest as the events.
 pub read-back : (l : List Event) → length l ≤ most-events → (readList (listBytes l) ≡ Listed (length l)) × (eventsOf (listBytes l) ≡ l)

@@ -10,7 +10,7 @@ use Rattle.rules.specs.LoadList.{Event, event, event-at, eventBytes, headBytes,
 use Rattle.rules.specs.Display.{loaded}
 use Rattle.rules.specs.Refusals.{eventOf, lent}
 use Rattle.laws.proofs.Writing.{put-after, put-front, length-put, events-snoc}
-use Rattle.laws.proofs.RoundTrip.{length-events}
+use Rattle.laws.proofs.RoundTrip.{length-events, length-list}
 use Rattle.planner.specs.Loads.{loadOf, firstLoads}
 use Rattle.planner.proofs.LoadRow.{load-first, length-first}
 
@@ -87,8 +87,7 @@ module _ (count : ℕ) (row : List ℕ) (there : count ≤ length row) where
       sym (drop-drop (7 * count) 7 (headBytes count ++ drop 7 first))
       ∙ ap (λ (r : List ℕ). drop (7 * count) r) (drop-at (headBytes count) (drop 7 first) 7 refl)
       ∙ drop-drop (7 * count) 7 first in
-      let size : length (listBytes events) ≡ event-at count =
-      length-append (headBytes (length events)) (eventsBytes events) ∙ rw (length-events events, all) refl in
+      let size : length (listBytes events) ≡ event-at count = length-list events ∙ rw all refl in
       far .holds
       ∙ pieces (take 7 (putHead count first)) (headBytes (length events)) (eventsBytes (take count events)) (eventsBytes events)
       (drop (event-at count) (putHead count first)) (drop (length (listBytes events)) first)

@@ -2,72 +2,103 @@
 use Prim.Native.Nat.{ℕ, _+_, _-_, _<_, _≤_}
 use native.Mathlib.Omega.{arith}
 use mathlib.Core.Path.{_≡_, refl, sym, ap, _∙_}
-use mathlib.Core.Bool.{Bool, true, false, _&&_}
+use mathlib.Core.Bool.{Bool, true, false, _||_, cond}
 use mathlib.Core.List.{List}
 use lib.ListN.{getD, drop}
 use lib.Seq.{getD-drop, drop-drop}
-use lib.Dec.{leb, eqb}
-use borrow.Author.Tests.{le-leb, lt-leb, leb-true, eq-eqb, ne-eqb, eqb-false, lt-ltb, le-ltb}
-use Rattle.rules.specs.Text.{blank, line-feed, last-slot, last-symbol, digitCount, FieldReading, found, none, wellWritten, readField}
+use lib.Dec.{eqb}
+use borrow.Author.Tests.{le-leb, eq-eqb, ne-eqb, eqb-true, eqb-false, lt-ltb, le-ltb}
+use Rattle.rules.specs.Text.{blank, line-feed, last-slot, last-symbol, isDigit, digitCount, numberFrom, FieldReading, found, none, readField}
 use Rattle.rules.specs.Text.{line, withSymbol, withSlot, withTick, readLine}
 use Rattle.laws.proofs.Cases.{by-test}
 use Rattle.text.specs.declared.line.Digits.{Digits}
 use Rattle.text.specs.declared.line.FieldFound.the-variants.{Field, NoField}
 use Rattle.text.specs.declared.line.LineFound.the-variants.{Line, BadLine}
-use Rattle.text.specs.Found.{kept, DigitsFound, fieldFound, lineFound}
+use Rattle.text.specs.Found.{kept, DigitsFound, FirstDigit, NumberFound, Stop, fieldFound, lineFound}
+use Rattle.text.proofs.Digits.{counts-some, counts-none, takes-none, first-there, counts-first, takes-first}
 
 -- ---- A number and the byte after it
 
-and-false : (a b : Bool) → b ≡ false → (a && b) ≡ false
-and-false true b e = e
-and-false false b e = refl
+or-true : (a : Bool) → (a || true) ≡ true
+or-true true = refl
+or-true false = refl
 
-module _ (text : List ℕ) (from stop : ℕ) (r : Digits) (is : DigitsFound (drop from text) from r) where
+module _ (text : List ℕ) (from stop : ℕ) where
   abbrev part : List ℕ
   part = drop from text
 
-  -- The byte after the digits, and the first byte.
-  byte-after : getD part (digitCount part) 0 ≡ getD text (r .end) 0
-  byte-after = getD-drop from text (digitCount part) 0 ∙ ap (λ (n : ℕ). getD text n 0) (sym (is .ends))
+  -- No digit is there.
+  pub no-digit : isDigit (getD text from 0) ≡ false → NoField ≡ fieldFound from (readField stop part)
+  no-digit other = rw (counts-none text from other)
 
-  byte-first : getD part 0 0 ≡ getD text from 0
-  byte-first = getD-drop from text 0 0 ∙ ap (λ (n : ℕ). getD text n 0) (omega arith)
+  module _ (first : ℕ) (begins : FirstDigit text from first) (stops : Stop stop) where
+    -- A zero is there: it is the number if the right byte comes after it.
+    module _ (zero : first ≡ 48) where
+      byte-second : getD part 1 0 ≡ getD text (from + 1) 0
+      byte-second = getD-drop from text 1 0
 
-  pub no-digit : r .end ≡ from → NoField ≡ fieldFound from (readField stop part)
-  no-digit here =
-      let zero : digitCount part < 1 = omega (arith, is .ends) in
-      rw (lt-leb 1 (digitCount part) zero)
+      single : isDigit (getD text (from + 1) 0) ≡ false → digitCount part ≡ 1
+      single other = omega (arith, counts-first text from first begins, counts-none text (from + 1) other)
 
-  pub other-byte : (getD text (r .end) 0 ≡ stop → ⊥) → NoField ≡ fieldFound from (readField stop part)
-  other-byte differs =
-      rw (and-false (wellWritten (digitCount part) part) _ (ne-eqb _ stop (λ same. differs (sym byte-after ∙ same))))
+      zero-ends : getD text (from + 1) 0 ≡ stop → Field 0 (from + 1 + 1) ≡ fieldFound from (readField stop part)
+      zero-ends ends =
+          let other : isDigit (getD text (from + 1) 0) ≡ false = rw ends (stops .no-digit) in
+          let names : numberFrom 0 part ≡ 0 =
+          takes-first text from first begins ∙ takes-none text (from + 1) other (first - 48) ∙ omega arith in
+          let place : from + 1 + 1 ≡ from + 2 = omega arith in
+          rw (single other, eq-eqb (getD part 1 0) stop (byte-second ∙ ends), names, place)
 
-  pub zero-first : 1 < r .end - from → getD text from 0 ≡ 48 → NoField ≡ fieldFound from (readField stop part)
-  zero-first more zero =
-      let two : 1 < digitCount part = omega (arith, is .ends) in
-      rw (
-        le-leb 1 (digitCount part) (omega arith),
-        ne-eqb (digitCount part) 1 (λ one. omega arith),
-        eq-eqb (getD part 0 0) 48 (byte-first ∙ zero),
-      )
+      zero-goes-on : (getD text (from + 1) 0 ≡ stop → ⊥) → NoField ≡ fieldFound from (readField stop part)
+      zero-goes-on differs =
+          by-test (isDigit (getD text (from + 1) 0))
+          (λ digit.
+          let two : 2 ≤ digitCount part = omega (arith, counts-first text from first begins, counts-some text (from + 1) digit) in
+          rw (
+            le-leb 1 (digitCount part) (omega arith),
+            ne-eqb (digitCount part) 1 (λ one. omega arith),
+            eq-eqb (getD part 0 0) 48 (first-there text from first begins ∙ zero),
+          ))
+          (λ other. rw (single other, ne-eqb (getD part 1 0) stop (λ same. differs (sym byte-second ∙ same))))
 
-  pub a-number : (r .end ≡ from → ⊥) → getD text (r .end) 0 ≡ stop → (1 < r .end - from → getD text from 0 ≡ 48 → ⊥)
-      → Field (r .number) (r .end + 1) ≡ fieldFound from (readField stop part)
-  a-number some ends right =
-      let one : leb 1 (digitCount part) ≡ true = le-leb 1 (digitCount part) (positive (digitCount part) (λ zero. some (omega (arith, is .ends)))) in
-      let place : r .end + 1 ≡ from + (digitCount part + 1) = omega (arith, is .ends) in
-      let stops : eqb (getD part (digitCount part) 0) stop ≡ true = eq-eqb _ stop (byte-after ∙ ends) in
-      by-test (eqb (digitCount part) 1)
-      (λ single. rw (one, single, stops, place, is .names))
-      (λ longer.
-      let two : 1 < r .end - from = two-digits (digitCount part) (leb-true 1 (digitCount part) one) (eqb-false (digitCount part) 1 longer) (is .ends) in
-      rw (one, longer, ne-eqb (getD part 0 0) 48 (λ zero. right two (sym byte-first ∙ zero)), stops, place, is .names))
-    where
-      positive : (n : ℕ) → (n ≡ 0 → ⊥) → 1 ≤ n
-      positive n some = omega (arith, some)
+    -- Another digit is there: the number has all the digits.
+    module _ (some : first ≡ 48 → ⊥) where
+      byte-after : getD part (digitCount part) 0 ≡ getD text (from + digitCount part) 0
+      byte-after = getD-drop from text (digitCount part) 0
 
-      two-digits : (n : ℕ) → 1 ≤ n → (n ≡ 1 → ⊥) → r .end ≡ from + n → 1 < r .end - from
-      two-digits n some other ends = omega (arith, other)
+      field-is : readField stop part
+          ≡ cond (eqb (getD text (from + digitCount part) 0) stop) (found (numberFrom 0 part) (digitCount part + 1)) none
+      field-is =
+          rw (
+            le-leb 1 (digitCount part) (omega (arith, counts-first text from first begins)),
+            ne-eqb (getD part 0 0) 48 (λ zero. some (sym (first-there text from first begins) ∙ zero)),
+            or-true (eqb (digitCount part) 1),
+            byte-after,
+          )
+
+    module _ (r : Digits) (is : NumberFound part from r) where
+      zero-is : first ≡ 48 → r ≡ record { end = from + 1; number = 0 }
+      zero-is zero = is .zero (first-there text from first begins ∙ zero)
+
+      other-is : (first ≡ 48 → ⊥) → DigitsFound 0 part from r
+      other-is some = is .other (λ zero. some (sym (first-there text from first begins) ∙ zero))
+
+      pub other-byte : (getD text (r .end) 0 ≡ stop → ⊥) → NoField ≡ fieldFound from (readField stop part)
+      other-byte differs =
+          by-test (eqb first 48)
+          (λ same. let zero = eqb-true first 48 same in zero-goes-on zero (rw (zero-is zero) at differs))
+          (λ other.
+          let some = eqb-false first 48 other in
+          rw (field-is some, ← other-is some .ends, ne-eqb (getD text (r .end) 0) stop differs))
+
+      pub a-number : getD text (r .end) 0 ≡ stop → Field (r .number) (r .end + 1) ≡ fieldFound from (readField stop part)
+      a-number ends =
+          by-test (eqb first 48)
+          (λ same. let zero = eqb-true first 48 same in rw (zero-is zero) (zero-ends zero (rw (zero-is zero) at ends)))
+          (λ other.
+          let some = eqb-false first 48 other in
+          let all = other-is some in
+          let place : from + (digitCount part + 1) ≡ r .end + 1 = omega (arith, all .ends) in
+          rw (field-is some, ← all .ends, eq-eqb (getD text (r .end) 0) stop ends, all .names, place))
 
 -- ---- A line
 

@@ -8,7 +8,7 @@ use lib.Seq.{drop-at, drop-drop, length-take-le}
 use Rattle.rules.specs.LoadList.{Event, event, most-events, event-at, eventBytes, eventsBytes, headBytes, listBytes, putHead, putEvent}
 use Rattle.rules.specs.Refusals.{lent}
 use Rattle.rules.specs.Text.{LineReading, line, bad, TextReading, lines, badLine, addLine, readLine, firstLine, readLines, linesOf}
-use Rattle.laws.proofs.RoundTrip.{length-events}
+use Rattle.laws.proofs.RoundTrip.{length-events, length-list}
 use Rattle.laws.proofs.Writing.{put-after, put-front, length-put, events-snoc}
 use Rattle.text.specs.declared.line.LineFound.the-variants.{Line, BadLine}
 use Rattle.text.specs.declared.read.LinesFound.the-variants.{Lines, FirstBad}
@@ -135,7 +135,7 @@ module _ (text row : List ℕ) where
         let body : List ℕ = eventsBytes (map keptEvent (noted .events)) in
         let many : length (map keptEvent (noted .events)) ≡ count = length-map (noted .events) keptEvent ∙ noted .many in
         let size : length (listBytes (map keptEvent (noted .events))) ≡ event-at count =
-        length-append (headBytes (length (map keptEvent (noted .events)))) body ∙ rw bytes-size in
+        length-list (map keptEvent (noted .events)) ∙ rw many in
         put-front count row′ (omega (arith, noted .long, noted .same-size))
         ∙ ap (λ (r : List ℕ). headBytes count ++ r)
         (ap (drop 7) (noted .holds ∙ append-assoc (take 7 row) body after-front) ∙ drop-at (take 7 row) (body ++ after-front) 7 seven)

@@ -1,10 +1,12 @@
 -- What the code finds at a place of a text: the digits, a number with the byte after it, and a line, each with the place after it.
-use Prim.Native.Nat.{ℕ, _+_, _≤_, min}
+use Prim.Native.Nat.{ℕ, _+_, _<_, _≤_, min}
 use mathlib.Core.Path.{_≡_}
+use mathlib.Core.Bool.{true, false}
 use mathlib.Core.List.{List}
+use lib.ListN.{length, getD}
 use Rattle.rules.specs.declared.Written.{Written}
 use Rattle.rules.specs.LoadList.{event, last-tick}
-use Rattle.rules.specs.Text.{FieldReading, found, none, LineReading, line, bad, digitCount, numberFrom}
+use Rattle.rules.specs.Text.{FieldReading, found, none, LineReading, line, bad, isDigit, digitCount, numberFrom}
 use Rattle.text.specs.declared.line.Digits.{Digits}
 use Rattle.text.specs.declared.line.FieldFound.{FieldFound}
 use Rattle.text.specs.declared.line.FieldFound.the-variants.{Field, NoField}
@@ -21,9 +23,26 @@ pub record WithDigit (number byte : ℕ) : Type 0 where
   pub low : 48 ≤ byte
   pub high : byte ≤ 57
 
-pub record DigitsFound (text : List ℕ) (from : ℕ) (r : Digits) : Type 0 where
+-- The digits at the front of what is left of a text from a place on, after those that made `before`.
+pub record DigitsFound (before : ℕ) (text : List ℕ) (from : ℕ) (r : Digits) : Type 0 where
   pub ends : r .end ≡ from + digitCount text
-  pub names : r .number ≡ kept (numberFrom 0 text)
+  pub names : r .number ≡ kept (numberFrom before text)
+
+-- A byte of a text that is a digit.
+pub record FirstDigit (text : List ℕ) (from first : ℕ) : Type 0 where
+  pub inside : from < length text
+  pub is : first ≡ getD text from 0
+  pub digit : isDigit first ≡ true
+
+-- The number that begins with the first byte there: zero is a number of one digit, and any other has all the digits.
+pub record NumberFound (text : List ℕ) (from : ℕ) (r : Digits) : Type 0 where
+  pub zero : getD text 0 0 ≡ 48 → r ≡ record { end = from + 1; number = 0 }
+  pub other : (getD text 0 0 ≡ 48 → ⊥) → DigitsFound 0 text from r
+
+-- A byte that ends a number: no digit, and not what is read past the end.
+pub record Stop (byte : ℕ) : Type 0 where
+  pub some : 0 < byte
+  pub no-digit : isDigit byte ≡ false
 
 abbrev pub fieldFound : ℕ → FieldReading → FieldFound
 fieldFound from (found n size) = Field (kept n) (from + size)

@@ -2,10 +2,11 @@
 // over it, so no number of digits is too many.
 use rules::LAST_TICK;
 ghost use mathlib.Core.Path.{_≡_};
-ghost use Prim.Native.Nat.{_+_, _*_, _-_, _<_};
+ghost use Prim.Native.Nat.{_+_, _*_, _-_, _≤_};
 ghost use lib.ListN.{drop};
+ghost use Rattle.rules.specs.LoadList.{last-tick};
 ghost use Rattle.rules.specs.Text.{isDigit, readField, readLine};
-ghost use Rattle.text.specs.Found.{kept, WithDigit, DigitsFound, fieldFound, lineFound};
+ghost use Rattle.text.specs.Found.{kept, WithDigit, DigitsFound, FirstDigit, NumberFound, Stop, fieldFound, lineFound};
 
 // The digits from a place on: where they end, and the number that they name.
 pub struct Digits {
@@ -49,11 +50,13 @@ fn with_digit(number: u32, byte: u8) -> u32
     }
 }
 
-fn digits_at(text: &[u8], from: usize) -> Digits
-    ensures { λ r. ⌜ DigitsFound (drop from (now (text .entry))) from r ⌝ }
+// The digits from a place on, after those that made a number.
+fn digits_at(text: &[u8], from: usize, before: u32) -> Digits
+    requires { ⌜ before ≤ last-tick + 1 ⌝ }
+    ensures { λ r. ⌜ DigitsFound before (drop from (now (text .entry))) from r ⌝ }
 {
     let mut end = from;
-    let mut number: u32 = 0;
+    let mut number = before;
     while end < text.len() {
         let byte = text[end];
         if !is_digit(byte) {
@@ -65,26 +68,39 @@ fn digits_at(text: &[u8], from: usize) -> Digits
     Digits { end, number }
 }
 
+// The number whose first digit is at a place. No digit may come after a zero, so a zero is a whole number.
+fn number_at(text: &[u8], from: usize, first: u8) -> Digits
+    requires { ⌜ FirstDigit (now text) from first ⌝ }
+    ensures { λ r. ⌜ NumberFound (drop from (now (text .entry))) from r ⌝ }
+{
+    if first == 48 {
+        return Digits {
+            end: from + 1,
+            number: 0,
+        };
+    }
+    digits_at(text, from + 1, (first - 48) as u32)
+}
+
 // A number from a place on that ends with this byte.
 fn field_at(text: &[u8], from: usize, stop: u8) -> FieldFound
-    requires { ⌜ 0 < stop ⌝ }
+    requires { ⌜ Stop stop ⌝ }
     ensures { λ r. ⌜ r ≡ fieldFound from (readField stop (drop from (now (text .entry)))) ⌝ }
 {
-    let digits = digits_at(text, from);
-    let end = digits.end;
-    if end == from {
+    if text.len() <= from {
         return FieldFound::NoField;
     }
+    let first = text[from];
+    if !is_digit(first) {
+        return FieldFound::NoField;
+    }
+    let digits = number_at(text, from, first);
+    let end = digits.end;
     if text.len() <= end {
         return FieldFound::NoField;
     }
     if text[end] != stop {
         return FieldFound::NoField;
-    }
-    if 1 < end - from {
-        if text[from] == 48 {
-            return FieldFound::NoField;
-        }
     }
     FieldFound::Field {
         number: digits.number,

@@ -3,19 +3,16 @@ use Prim.Native.Nat.{ℕ, _+_, _*_, _≤_}
 use native.Mathlib.Omega.{arith}
 use mathlib.Core.Path.{_≡_, ap, _∙_}
 use mathlib.Core.List.{List, map}
-use lib.ListN.{length, take, length-append, length-map, length-replicate}
+use lib.ListN.{length, take, length-map, length-replicate}
 use lib.Seq.{take-at}
 use borrow.Author.Needs.{needs}
-use Rattle.rules.specs.LoadList.{Event, most-events, head-size, event-size, eventsBytes, headBytes, listBytes}
+use Rattle.rules.specs.LoadList.{Event, most-events, head-size, event-size, listBytes}
 use Rattle.rules.specs.Text.{linesOf, lines}
-use Rattle.laws.proofs.RoundTrip.{length-events}
+use Rattle.laws.proofs.RoundTrip.{length-list}
 use Rattle.text.specs.Lists.{keptEvent}
 use Rattle.text.proofs.Answers.{bad-line, all-lines, reader-refuses, reader-hands-out}
 use Rattle.text.proofs.read.read_text.Statement.{statement}
 use Rattle.text.proofs.read.read_text.Tie as tie
-
-list-size : (l : List Event) → length (listBytes l) ≡ head-size + event-size * length l
-list-size l = length-append (headBytes (length l)) (eventsBytes l) ∙ rw (length-events l)
 
 -- The lines were noted.
 module _ (n : tie.After-note-lines) where
@@ -69,7 +66,7 @@ returns-2 c =
     let (l, is, many) = read p in
     let held : row n ≡ _ = n .note-lines .ensures .holds l is in
     let size : length (listBytes (map keptEvent l)) ≡ head-size + event-size * count p =
-    list-size (map keptEvent l) ∙ ap (λ (m : ℕ). head-size + event-size * m) (length-map l keptEvent ∙ many) in
+    length-list (map keptEvent l) ∙ ap (λ (m : ℕ). head-size + event-size * m) (length-map l keptEvent ∙ many) in
     reader-hands-out (text n) l (count p) (row n) _ (room n) _ is
     (h .hand-out .ensures l many (ap (take (head-size + event-size * count p)) held ∙ take-at (listBytes (map keptEvent l)) _ _ size))
 
