@@ -1,5 +1,4 @@
 -- `number_at` meets its contract: a zero is found at once, and any other first digit takes those after it along.
-use Prim.Native.Nat.{_≤_}
 use native.Mathlib.Omega.{arith}
 use borrow.Author.Needs.{needs}
 use Rattle.text.proofs.Digits.{may-be-added, zero-found, number-found}
