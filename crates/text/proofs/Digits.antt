@@ -80,18 +80,18 @@ module _ (text : List ℕ) (i : ℕ) where
 -- ---- Going along
 
 -- The digits before a place were passed, and those from there on are left.
-pub record DigitsPassed (before : ℕ) (text : List ℕ) (from end number : ℕ) : Type 0 where
+pub record DigitsPassed (sum : ℕ) (text : List ℕ) (from end number : ℕ) : Type 0 where
   pub small : number ≤ last-tick + 1
   pub onward : from ≤ end
   pub counted : from + digitCount (drop from text) ≡ end + digitCount (drop end text)
-  pub named : kept (numberFrom before (drop from text)) ≡ kept (numberFrom number (drop end text))
+  pub named : kept (numberFrom sum (drop from text)) ≡ kept (numberFrom number (drop end text))
 
-module _ (before : ℕ) (text : List ℕ) (from : ℕ) where
-  pub none-passed : before ≤ last-tick + 1 → DigitsPassed before text from from before
+module _ (sum : ℕ) (text : List ℕ) (from : ℕ) where
+  pub none-passed : sum ≤ last-tick + 1 → DigitsPassed sum text from from sum
   none-passed small = record { small = small; onward = omega arith; counted = refl; named = refl }
 
-  module _ (end number : ℕ) (passed : DigitsPassed before text from end number) where
-    pub at-another : isDigit (getD text end 0) ≡ false → DigitsFound before (drop from text) from (record { end = end; number = number })
+  module _ (end number : ℕ) (passed : DigitsPassed sum text from end number) where
+    pub at-another : isDigit (getD text end 0) ≡ false → DigitsFound sum (drop from text) from (record { end = end; number = number })
     at-another other =
         let small : number ≤ last-tick + 1 = passed .small in
         record {
@@ -100,11 +100,11 @@ module _ (before : ℕ) (text : List ℕ) (from : ℕ) where
         }
 
     -- Past the end of the text there is no digit.
-    pub at-the-end : length text ≤ end → DigitsFound before (drop from text) from (record { end = end; number = number })
+    pub at-the-end : length text ≤ end → DigitsFound sum (drop from text) from (record { end = end; number = number })
     at-the-end over = at-another (rw (List·getD-eq-default text 0 over) refl)
 
     pub one-passed : end < length text → isDigit (getD text end 0) ≡ true
-        → DigitsPassed before text from (end + 1) (kept (10 * number + (getD text end 0 - 48)))
+        → DigitsPassed sum text from (end + 1) (kept (10 * number + (getD text end 0 - 48)))
     one-passed inside digit =
         let more : ℕ = 10 * number + (getD text end 0 - 48) in
         let start : from ≤ end = passed .onward in

@@ -23,10 +23,10 @@ pub record WithDigit (number byte : ℕ) : Type 0 where
   pub low : 48 ≤ byte
   pub high : byte ≤ 57
 
--- The digits at the front of what is left of a text from a place on, after those that made `before`.
-pub record DigitsFound (before : ℕ) (text : List ℕ) (from : ℕ) (r : Digits) : Type 0 where
+-- The digits at the front of what is left of a text from a place on, after those that made `sum`.
+pub record DigitsFound (sum : ℕ) (text : List ℕ) (from : ℕ) (r : Digits) : Type 0 where
   pub ends : r .end ≡ from + digitCount text
-  pub names : r .number ≡ kept (numberFrom before text)
+  pub names : r .number ≡ kept (numberFrom sum text)
 
 -- A byte of a text that is a digit.
 pub record FirstDigit (text : List ℕ) (from first : ℕ) : Type 0 where

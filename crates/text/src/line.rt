@@ -50,13 +50,13 @@ fn with_digit(number: u32, byte: u8) -> u32
     }
 }
 
-// The digits from a place on, after those that made a number.
-fn digits_at(text: &[u8], from: usize, before: u32) -> Digits
-    requires { ⌜ before ≤ last-tick + 1 ⌝ }
-    ensures { λ r. ⌜ DigitsFound before (drop from (now (text .entry))) from r ⌝ }
+// The digits from a place on, after those that made `sum`.
+fn digits_at(text: &[u8], from: usize, sum: u32) -> Digits
+    requires { ⌜ sum ≤ last-tick + 1 ⌝ }
+    ensures { λ r. ⌜ DigitsFound sum (drop from (now (text .entry))) from r ⌝ }
 {
     let mut end = from;
-    let mut number = before;
+    let mut number = sum;
     while end < text.len() {
         let byte = text[end];
         if !is_digit(byte) {

@@ -12,15 +12,15 @@ use Rattle.text.proofs.line.digits_at.Statement.{statement}
 use Rattle.text.proofs.line.digits_at.Tie as tie
 
 abbrev Inv-loop : tie.InvT-loop
-Inv-loop text from before end₀ number₀ end number = DigitsPassed before text from end number
+Inv-loop text from sum end₀ number₀ end number = DigitsPassed sum text from end number
 
 abbrev μ-loop : tie.MeasureT-loop
-μ-loop text from before end₀ number₀ end number = length text - end
+μ-loop text from sum end₀ number₀ end number = length text - end
 
 loop-holds : tie.Need-loop-holds Inv-loop μ-loop
 loop-holds c =
     let s : tie.Start Inv-loop μ-loop = search in
-    none-passed (s .args .before) (s .args .text .now) (s .args .from) (s .pre)
+    none-passed (s .args .sum) (s .args .text .now) (s .args .from) (s .pre)
 
 returns : tie.Need-returns Inv-loop μ-loop
 returns c =
@@ -28,7 +28,7 @@ returns c =
     let p : tie.At-loop Inv-loop μ-loop = search in
     let t : tie.After-is-digit Inv-loop μ-loop = search in
     let other : not (t .is-digit .result) ≡ true = search in
-    at-another (s .args .before) (s .args .text .now) (s .args .from) (p .loop .end) (p .loop .number) (p .loop .inv)
+    at-another (s .args .sum) (s .args .text .now) (s .args .from) (p .loop .end) (p .loop .number) (p .loop .inv)
     (sym (t .is-digit .ensures) ∙ not-true (t .is-digit .result) other)
 
 -- The byte is a digit.
@@ -58,13 +58,13 @@ loop-again c =
     let t : tie.After-is-digit Inv-loop μ-loop = search in
     let w : tie.After-with-digit Inv-loop μ-loop = search in
     rw (w .with-digit .ensures)
-    (one-passed (s .args .before) (s .args .text .now) (s .args .from) (p .loop .end) (p .loop .number) (p .loop .inv) (turn t search) (is t search))
+    (one-passed (s .args .sum) (s .args .text .now) (s .args .from) (p .loop .end) (p .loop .number) (p .loop .inv) (turn t search) (is t search))
 
 returns-2 : tie.Need-returns-2 Inv-loop μ-loop
 returns-2 c =
     let s : tie.Start Inv-loop μ-loop = search in
     let p : tie.At-loop Inv-loop μ-loop = search in
-    at-the-end (s .args .before) (s .args .text .now) (s .args .from) (p .loop .end) (p .loop .number) (p .loop .inv) (omega arith)
+    at-the-end (s .args .sum) (s .args .text .now) (s .args .from) (p .loop .end) (p .loop .number) (p .loop .inv) (omega arith)
 
 pub digits-at-spec : {M : Type 1} → statement M
 digits-at-spec =
