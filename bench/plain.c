@@ -243,6 +243,13 @@ static uint32_t age(const struct display *display, const struct job *job, uint32
     return ago;
 }
 
+/* How far off a symbol is for opt: its next draw, or, where it is never drawn again, beyond all draws by its age. */
+static uint32_t next_draw_or_age(const struct display *display, const struct job *job, uint32_t symbol)
+{
+    uint32_t place = next_draw(display, job, symbol);
+    return place < job->draws ? place : job->draws + age(display, job, symbol);
+}
+
 /* The lowest free slot, or the number of slots. */
 static uint32_t free_slot(const struct display *display, const struct job *job)
 {
@@ -309,7 +316,7 @@ static int wants(uint32_t plan, const struct display *display, const struct job 
     switch (plan) {
     case 0: return aggressive(display, job, load);
     case 1: return conservative(display, job, order, load);
-    case 2: return on_demand(display, job, load, next_draw);
+    case 2: return on_demand(display, job, load, next_draw_or_age);
     default: return on_demand(display, job, load, age);
     }
 }

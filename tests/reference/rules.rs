@@ -236,11 +236,20 @@ impl<'a> Display<'a> {
 
     /// A free slot, else the one whose symbol was drawn longest ago; not yet drawn is older than all.
     fn free_or_oldest(&self) -> usize {
-        self.free_slot().unwrap_or_else(|| {
-            let drawn = |slot: usize| self.job.draws[..self.next].iter().rposition(|&s| Some(s) == self.held[slot]);
-            let oldest = (0..self.held.len()).map(drawn).min().unwrap();
-            (0..self.held.len()).find(|&slot| drawn(slot) == oldest).unwrap()
-        })
+        self.free_slot().unwrap_or_else(|| self.oldest_of((0..self.held.len()).collect()))
+    }
+
+    /// Of these slots the one whose symbol's last draw so far is earliest; not yet drawn is before all, and of several such the lowest.
+    fn oldest_of(&self, slots: Vec<usize>) -> usize {
+        let drawn = |slot: usize| self.job.draws[..self.next].iter().rposition(|&s| Some(s) == self.held[slot]);
+        let oldest = slots.iter().map(|&slot| drawn(slot)).min().unwrap();
+        slots.into_iter().find(|&slot| drawn(slot) == oldest).unwrap()
+    }
+
+    /// For opt, request Four: a free slot; else of the symbols never drawn again the one that came free first; else the furthest.
+    fn free_or_came_free_first(&self) -> usize {
+        let done: Vec<usize> = (0..self.held.len()).filter(|&slot| self.held[slot].is_some_and(|s| self.next_draw(s).is_none())).collect();
+        if self.free_slot().is_some() || done.is_empty() { self.free_or_furthest() } else { self.oldest_of(done) }
     }
 
     fn load(&self, slot: usize, symbol: u16) -> Event {
@@ -336,7 +345,7 @@ fn opt(display: &Display) -> Option<Event> {
     let symbol = display.job.draws[display.next];
     match display.slot_of(symbol) {
         Some(_) => None,
-        None => Some(display.load(display.free_or_furthest(), symbol)),
+        None => Some(display.load(display.free_or_came_free_first(), symbol)),
     }
 }
 

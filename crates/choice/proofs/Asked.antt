@@ -2,8 +2,8 @@
 use Prim.Native.Nat.{ℕ, zero, suc, _+_, _-_, _<_, _≤_}
 use native.Mathlib.Omega.{arith}
 use mathlib.Core.Path.{_≡_, refl, sym, ap, _∙_}
-use mathlib.Core.Bool.{true, false, cond, not, _&&_}
-use mathlib.Core.List.{List, reverse}
+use mathlib.Core.Bool.{Bool, true, false, cond, not, _&&_}
+use mathlib.Core.List.{List, _++_, reverse}
 use lib.ListN.{length, getD, take, drop, length-drop}
 use lib.Seq.{take-all}
 use lib.Dec.{ltb, leb}
@@ -15,9 +15,10 @@ use Rattle.rules.specs.declared.Loading.the-variants.{Idle}
 use Rattle.rules.specs.Basics.{place, stands}
 use Rattle.rules.specs.Job.{Job}
 use Rattle.rules.specs.Display.{State, idle, awaited}
-use Rattle.rules.specs.Plans.{rank, furthest, ahead, behind, missing, aggressive, on-demand, opt, lru, earliestAt}
+use Rattle.rules.specs.Plans.{rank, furthest, behind, both-ways, missing, aggressive, on-demand, optSlot, opt, lru, earliestAt}
 use Rattle.choice.specs.declared.ask.Order.{Order}
 use Rattle.choice.specs.declared.ask.Order.the-variants.{Due, Nothing}
+use Rattle.choice.specs.Ranks.{facing}
 use Rattle.choice.specs.Asks.{Quiet, Seen, OnDemand, orderAsks, asksBy}
 
 -- The parts of a state that a plan looks at, put in one by one.
@@ -122,24 +123,34 @@ module _ (job : Job) (order : Order) (s : State) (r : MaybeLoad) where
   by-lru (suc (suc zero)) e asks = absurd (omega arith)
   by-lru (suc (suc (suc plan))) e asks = asks
 
-  -- Opt looks along the draws that remain, lru back along those made.
+  -- Lru looks back along the draws made, opt both ways.
   module _ (slots row : List ℕ) (at symbol : ℕ) (seen : Seen job s slots row at symbol) where
     chosen-in : (look : State → List ℕ) (looked : List ℕ) → look s ≡ looked → furthest job (look s) (s .slots) ≡ furthest job looked slots
     chosen-in look looked e =
         ap (λ (l : List ℕ). furthest job l (s .slots)) e ∙ ap (λ (l : List ℕ). furthest job looked l) (seen .quiet .held)
 
-    pub asks-opt : (plan : ℕ) → plan ≡ 2 → (rest : List ℕ) → rest ≡ drop at row → OnDemand slots rest symbol r → r ≡ asksBy plan job order s
+    made-is : behind job s ≡ reverse (take at row)
+    made-is = ap (λ (n : ℕ). reverse (take n (job .draws))) (seen .next) ∙ ap (λ (l : List ℕ). reverse (take at l)) (seen .draws)
+
+    asks-opt : (plan : ℕ) → plan ≡ 2 → (rest : List ℕ) → rest ≡ drop at row → OnDemand slots (rest ++ reverse (take at row)) symbol r
+        → r ≡ asksBy plan job order s
     asks-opt plan e rest remain asks =
         by-opt plan e
-        (asks job s (λ z. furthest job (ahead z) (z .slots)) (seen .quiet) (seen .awaits)
-        (chosen-in ahead rest (seen .rest ∙ sym remain)))
+        (asks job s (optSlot job) (seen .quiet) (seen .awaits)
+        (chosen-in (both-ways job) (rest ++ reverse (take at row))
+        (ap (λ (l : List ℕ). l ++ behind job s) (seen .rest ∙ sym remain) ∙ ap (λ (l : List ℕ). rest ++ l) made-is)))
 
-    pub asks-lru : (plan : ℕ) → 3 ≤ plan → OnDemand slots (reverse (take at row)) symbol r → r ≡ asksBy plan job order s
+    asks-lru : (plan : ℕ) → 3 ≤ plan → OnDemand slots (reverse (take at row)) symbol r → r ≡ asksBy plan job order s
     asks-lru plan e asks =
         by-lru plan e
         (asks job s (λ z. furthest job (behind job z) (z .slots)) (seen .quiet) (seen .awaits)
-        (chosen-in (behind job) (reverse (take at row))
-        (ap (λ (n : ℕ). reverse (take n (job .draws))) (seen .next) ∙ ap (λ (l : List ℕ). reverse (take at l)) (seen .draws))))
+        (chosen-in (behind job) (reverse (take at row)) made-is))
+
+    -- A look back alone is lru's, and a look both ways is opt's.
+    pub asks-demand : (plan : ℕ) (back : Bool) (rest : List ℕ) → rest ≡ drop at row → OnDemand slots (facing back rest (take at row)) symbol r
+        → (back ≡ true → 3 ≤ plan) → (back ≡ false → plan ≡ 2) → r ≡ asksBy plan job order s
+    asks-demand plan true rest remain asks alone both = asks-lru plan (alone refl) asks
+    asks-demand plan false rest remain asks alone both = asks-opt plan (both refl) rest remain asks
 
 -- While a load is under way no plan asks for another.
 pub asks-busy : (plan : ℕ) (job : Job) (order : Order) (s : State) → idle (s .loading) ≡ false → NoLoad ≡ asksBy plan job order s

@@ -1,19 +1,20 @@
 -- The two steps of a choice: the ranks of the slots, slot by slot, and the first of the greatest, rank by rank.
-use Prim.Native.Nat.{ℕ, zero, suc, _+_, _-_, _<_, _≤_, max}
+use Prim.Native.Nat.{ℕ, suc, _+_, _-_, _<_, _≤_}
 use native.Mathlib.Omega.{arith}
 use native.Mathlib.Numerals.{add-one}
 use mathlib.Core.Path.{_≡_, refl, sym, ap, _∙_}
-use mathlib.Core.Bool.{cond}
 use mathlib.Core.List.{List, [], _∷_, _++_, map, map-append}
-use lib.ListN.{length, getD, take, drop, set, replicate, length-map, drop-of-length-le, List·getD-append}
-use lib.Seq.{length-take-le, take-suc, take-length, take-at, drop-cons}
-use lib.Dec.{ltb}
-use borrow.Author.Tests.{lt-ltb, le-ltb, eq-eqb, ne-eqb, ltb-true, ltb-false}
+use lib.ListN.{length, getD, take, drop, set, replicate, length-map}
+use lib.Seq.{length-take-le, take-suc, take-length, take-at, getD-take}
+use lib.Dec.{eqb, ltb}
+use borrow.Author.Tests.{lt-ltb, eq-eqb, ne-eqb, ltb-true, ltb-false}
 use Rattle.rules.specs.Basics.{place}
 use Rattle.rules.specs.Job.{Job, free, most-slots}
 use Rattle.rules.specs.Plans.{rank, ranksFrom, greatest}
 use Rattle.laws.proofs.Cases.{by-test}
+use Rattle.laws.proofs.Search.{place-within, place-near, place-beyond}
 use Rattle.laws.proofs.Places.{place-here, place-past}
+use Rattle.laws.proofs.Ranks.{Leads, leads-more, leads-same, search-leads, leads-search, length-ranks, rank-at}
 use Rattle.choice.specs.Ranks.{Ranks, Greatest, Chosen}
 use Rattle.choice.proofs.Rows.{filled-more}
 
@@ -39,6 +40,9 @@ module _ (row : List ℕ) where
 
   pub rank-symbol : (x : ℕ) → (x ≡ free → ⊥) → place x row ≡ rank row x
   rank-symbol x other = rw (ne-eqb x free other)
+
+  rank-most : (x : ℕ) → rank row x ≤ length row + 1
+  rank-most x = by-test (eqb x free) (λ e. rw e (omega arith)) (λ e. rw e (omega (arith, place-within x row)))
 
   -- ---- The ranks, slot by slot
 
@@ -81,19 +85,14 @@ module _ (row : List ℕ) where
 
 -- ---- The slot that is chosen by its rank
 
-length-ranks : (job : Job) (row : List ℕ) (q : ℕ) (slots : List ℕ) → length (ranksFrom job row q slots) ≡ length slots
-unfolding ranksFrom
-length-ranks job row q [] = refl
-length-ranks job row q (x ∷ slots) = ap suc (length-ranks job row (suc q) slots)
-
-getD-map : (f : ℕ → ℕ) (l : List ℕ) (i : ℕ) → i < length l → getD (map f l) i 0 ≡ f (getD l i 0)
-getD-map f [] i h = absurd (omega arith)
-getD-map f (x ∷ l) zero h = refl
-getD-map f (x ∷ l) (suc i) h = getD-map f l i (omega arith)
-
 -- A job that has these slots.
 jobWith : List ℕ → Job
 jobWith slots = record { slots = length slots; load-time = 0; starting = []; draws = [] }
+
+-- The rank of what slot q holds, in a job that has these slots.
+rank-in : (slots row : List ℕ) (job : Job) → job .slots ≡ length slots → (q : ℕ) → q < length slots
+    → getD (ranksFrom job row 0 slots) q 0 ≡ suc (rank row (getD slots q 0))
+rank-in slots row job many q less = rank-at job row 0 slots q less ∙ rw (lt-ltb (0 + q) (job .slots) (omega arith))
 
 module _ (slots row ranks : List ℕ) (ranked : Ranks slots row ranks) where
   ranks-front : (job : Job) → job .slots ≡ length slots → take (length slots) ranks ≡ ranksFrom job row 0 slots
@@ -107,14 +106,11 @@ module _ (slots row ranks : List ℕ) (ranked : Ranks slots row ranks) where
   ranks-size = sym (ap length (ranks-front (jobWith slots) refl) ∙ length-ranks (jobWith slots) row 0 slots)
 
   pub ranked-at : (q : ℕ) → q < length slots → getD ranks q 0 ≡ suc (rank row (getD slots q 0))
-  unfolding raised jobWith
+  unfolding jobWith
   ranked-at q less =
-      let all : ranksFrom (jobWith slots) row 0 slots ≡ map (raised row) slots = sym (all-ranked row (jobWith slots) 0 slots (omega arith)) in
-      let inside : q < length (map (raised row) slots) = rw (length-map slots (raised row)) less in
-      ap (λ (l : List ℕ). getD l q 0) (ranked (jobWith slots) refl)
-      ∙ ap (λ (l : List ℕ). getD (l ++ replicate (most-slots - length slots) 0) q 0) all
-      ∙ List·getD-append (map (raised row) slots) (replicate (most-slots - length slots) 0) 0 q inside
-      ∙ getD-map (raised row) slots q less
+      sym (getD-take (length slots) ranks q 0 less)
+      ∙ ap (λ (l : List ℕ). getD l q 0) (ranks-front (jobWith slots) refl)
+      ∙ rank-in slots row (jobWith slots) refl q less
 
   pub chosen-by : (q : ℕ) → Greatest (take (length slots) ranks) q → Chosen slots row q
   chosen-by q chosen =
@@ -124,68 +120,128 @@ module _ (slots row ranks : List ℕ) (ranked : Ranks slots row ranks) where
         within = rw ranks-size (chosen .within);
       }
 
--- ---- The first of the greatest, rank by rank
+  -- So the slot of the first greatest rank leads by the ranks of what the slots hold.
+  pub chosen-leads : (q : ℕ) → Greatest (take (length slots) ranks) q
+      → Leads (λ i. rank row (getD slots i 0)) q (rank row (getD slots q 0)) (length slots)
+  chosen-leads q chosen =
+      let size : length slots ≡ length (take (length slots) ranks) = ranks-size in
+      let within : q < length slots = rw ranks-size (chosen .within) in
+      let read : (i : ℕ) → i < length slots → getD (take (length slots) ranks) i 0 ≡ suc (rank row (getD slots i 0)) =
+      λ i less. getD-take (length slots) ranks i 0 less ∙ ranked-at i less in
+      let l = search-leads (take (length slots) ranks) q (chosen .first) (chosen .within) in
+      record {
+        above = λ i h. omega (arith, l .above i h, read i (omega arith), read q within);
+        below-none = λ i h. omega (arith, l .below-none i (omega arith), read i h, read q within);
+        own = omega arith;
+      }
 
--- The first of the greatest rank, where the ranks from a slot on remain: one of those, if it is above the greatest so far.
-abbrev pub firstAbove : ℕ → ℕ → ℕ → List ℕ → ℕ
-firstAbove best most slot ranks = cond (ltb most (greatest ranks)) (slot + place (greatest ranks) ranks) best
+-- What leads among all slots is chosen.
+pub leads-chosen : (slots row : List ℕ) (q most upto : ℕ) → q < length slots → length slots ≤ upto
+    → Leads (λ i. rank row (getD slots i 0)) q most upto → Chosen slots row q
+leads-chosen slots row q most upto within all l =
+    record {
+      slot = λ job many.
+          let ranks : List ℕ = ranksFrom job row 0 slots in
+          let size : length ranks ≡ length slots = length-ranks job row 0 slots in
+          leads-search ranks q (suc most) (omega arith)
+          (record {
+            above = λ i h. omega (arith, l .above i h, rank-in slots row job many i (omega arith));
+            below-none = λ i h. omega (arith, l .below-none i (omega arith), rank-in slots row job many i (omega arith));
+            own = omega (arith, l .own, rank-in slots row job many q within);
+          });
+      within = within;
+    }
 
--- One rank more: it is above the greatest so far, or it is not.
-above-more : (best most slot r : ℕ) (l : List ℕ) → most < r → firstAbove best most slot (r ∷ l) ≡ firstAbove slot r (slot + 1) l
-unfolding greatest place
-above-more best most slot r l h =
-    by-test (ltb r (greatest l))
-    (λ t.
-    let less : r < greatest l = ltb-true r (greatest l) t in
-    let later : max r (greatest l) ≡ greatest l = omega arith in
-    let over : most < greatest l = omega arith in
-    rw (later, lt-ltb most (greatest l) over, t, ne-eqb (greatest l) r (λ e. omega arith)) (omega arith))
-    (λ t.
-    let less : greatest l ≤ r = ltb-false r (greatest l) t in
-    let here : max r (greatest l) ≡ r = omega arith in
-    rw (here, lt-ltb most r h, t, eq-eqb r r refl) (omega arith))
+-- ---- Both ways
 
-above-same : (best most slot r : ℕ) (l : List ℕ) → r ≤ most → firstAbove best most slot (r ∷ l) ≡ firstAbove best most (slot + 1) l
-unfolding greatest place
-above-same best most slot r l h =
-    by-test (ltb most (greatest l))
-    (λ t.
-    let less : most < greatest l = ltb-true most (greatest l) t in
-    let later : max r (greatest l) ≡ greatest l = omega arith in
-    rw (later, t, ne-eqb (greatest l) r (λ e. omega arith)) (omega arith))
-    (λ t.
-    let less : greatest l ≤ most = ltb-false most (greatest l) t in
-    rw (t, le-ltb most (max r (greatest l)) (omega arith)))
+module _ (rest beyond : List ℕ) where
+  abbrev both : List ℕ
+  both = rest ++ beyond
 
-all-zero : (l : List ℕ) → greatest l ≤ 0 → place (greatest l) l ≡ 0
-unfolding greatest place
-all-zero [] h = refl
-all-zero (r ∷ l) h = rw (eq-eqb (max r (greatest l)) r (omega arith))
+  -- What is met among the draws that remain ranks as it does along them; what is not ranks by where it is met beyond them; and a free slot
+  -- ranks above both.
+  pub both-near : (x : ℕ) → rank rest x < length rest → rank both x ≡ rank rest x
+  both-near x near =
+      by-test (eqb x free)
+      (λ e. absurd (omega (arith, rw e at near)))
+      (λ e. let found : place x rest < length rest = rw e at near in rw (e, place-near x rest beyond found))
 
-module _ (ranks : List ℕ) where
-  -- The search among all ranks, with those from a slot on left.
-  abbrev pub Left : ℕ → ℕ → ℕ → Type 0
-  Left best most slot = place (greatest ranks) ranks ≡ firstAbove best most slot (drop slot ranks)
+  pub both-beyond : (x : ℕ) → rank rest x ≡ length rest → rank both x ≡ length rest + place x beyond
+  both-beyond x past =
+      by-test (eqb x free)
+      (λ e. absurd (let over : length rest + 1 ≡ length rest = rw e at past in omega arith))
+      (λ e.
+      let far : place x rest ≡ length rest = rw e at past in
+      rw e (place-beyond x rest beyond (omega arith)))
 
-  pub left-all : Left 0 0 0
-  left-all =
-      by-test (ltb 0 (greatest ranks))
-      (λ t. rw t (omega arith))
-      (λ t. rw t (all-zero ranks (ltb-false 0 _ t)))
+  both-free : (x : ℕ) → length rest < rank rest x → rank both x ≡ length both + 1
+  both-free x over =
+      by-test (eqb x free) (λ e. rw e)
+      (λ e. absurd (omega (arith, place-within x rest, rw e at over)))
 
-  pub left-none : (best most slot : ℕ) → length ranks ≤ slot → Left best most slot → best ≡ place (greatest ranks) ranks
-  unfolding greatest
-  left-none best most slot over e =
-      sym (e ∙ ap (firstAbove best most slot) (drop-of-length-le ranks over) ∙ rw (le-ltb most 0 (omega arith)))
+  both-held : (x : ℕ) → rank rest x ≤ length rest → rank both x ≤ length both
+  both-held x held =
+      by-test (eqb x free) (λ e. absurd (omega (arith, rw e at held))) (λ e. rw e (place-within x both))
 
-  next-rank : (slot : ℕ) → slot < length ranks → drop slot ranks ≡ getD ranks slot 0 ∷ drop (slot + 1) ranks
-  next-rank slot within = rw add-one (drop-cons ranks slot 0 within)
+  -- A slot that leads along the draws that remain leads both ways, unless its symbol is never drawn again.
+  pub leads-both : (slots : List ℕ) (q : ℕ) → (rank rest (getD slots q 0) ≡ length rest → ⊥)
+      → Leads (λ i. rank rest (getD slots i 0)) q (rank rest (getD slots q 0)) (length slots) → q < length slots
+      → Leads (λ i. rank both (getD slots i 0)) q (rank both (getD slots q 0)) (length slots)
+  leads-both slots q other l within =
+      by-test (ltb (rank rest (getD slots q 0)) (length rest))
+      (λ t.
+      let near : rank rest (getD slots q 0) < length rest = ltb-true _ _ t in
+      let same : (i : ℕ) → i < length slots → rank both (getD slots i 0) ≡ rank rest (getD slots i 0) =
+      λ i h. both-near (getD slots i 0) (omega (arith, l .below-none i h)) in
+      record {
+        above = λ i h. omega (arith, l .above i h, same i (omega arith), same q within);
+        below-none = λ i h. omega (arith, l .below-none i h, same i h, same q within);
+        own = omega arith;
+      })
+      (λ t.
+      let over : length rest < rank rest (getD slots q 0) = omega (arith, ltb-false (rank rest (getD slots q 0)) (length rest) t) in
+      let top : rank both (getD slots q 0) ≡ length both + 1 = both-free (getD slots q 0) over in
+      record {
+        above = λ i h. omega (arith, both-held (getD slots i 0) (omega (arith, l .above i h, rank-most rest (getD slots q 0))));
+        below-none = λ i h. omega (arith, rank-most both (getD slots i 0));
+        own = omega arith;
+      })
 
-  pub left-more : (best most slot : ℕ) → slot < length ranks → most < getD ranks slot 0 → Left best most slot
-      → Left slot (getD ranks slot 0) (slot + 1)
-  left-more best most slot within h before =
-      before ∙ ap (firstAbove best most slot) (next-rank slot within) ∙ above-more best most slot (getD ranks slot 0) _ h
+-- Of slots that lead along the draws that remain with symbols never drawn again, the one leads that is met furthest beyond them: slot by slot,
+-- from the lowest of them on.
+module _ (rest beyond slots : List ℕ) where
+  abbrev pub Freed : ℕ → ℕ → Type 0
+  Freed best slot = Leads (λ i. rank (rest ++ beyond) (getD slots i 0)) best (rank (rest ++ beyond) (getD slots best 0)) slot
 
-  pub left-same : (best most slot : ℕ) → slot < length ranks → getD ranks slot 0 ≤ most → Left best most slot → Left best most (slot + 1)
-  left-same best most slot within h before =
-      before ∙ ap (firstAbove best most slot) (next-rank slot within) ∙ above-same best most slot (getD ranks slot 0) _ h
+  abbrev pub Never : ℕ → Type 0
+  Never q = rank rest (getD slots q 0) ≡ length rest
+
+  beyond-at : (q : ℕ) → Never q → rank (rest ++ beyond) (getD slots q 0) ≡ length rest + place (getD slots q 0) beyond
+  beyond-at q never = both-beyond rest beyond (getD slots q 0) never
+
+  pub freed-first : (q : ℕ) → q < length slots → Never q
+      → Leads (λ i. rank rest (getD slots i 0)) q (rank rest (getD slots q 0)) (length slots) → Freed q (q + 1)
+  freed-first q within never l =
+      let before : (i : ℕ) → i < q → rank (rest ++ beyond) (getD slots i 0) < rank (rest ++ beyond) (getD slots q 0) =
+      λ i h. omega (arith, beyond-at q never, l .above i h, both-near rest beyond (getD slots i 0) (omega (arith, l .above i h))) in
+      record {
+        above = before;
+        below-none = λ i h.
+            by-test (ltb i q) (λ t. omega (arith, before i (ltb-true i q t)))
+            (λ t. let here : i ≡ q = omega (arith, ltb-false i q t) in rw here (omega arith));
+        own = omega arith;
+      }
+
+  module _ (best slot : ℕ) (never : Never best) (so-far : Freed best slot) where
+    pub freed-more : Never slot → place (getD slots best 0) beyond < place (getD slots slot 0) beyond → Freed slot (slot + 1)
+    freed-more too further =
+        leads-more _ best (rank (rest ++ beyond) (getD slots best 0)) slot (omega (arith, beyond-at best never, beyond-at slot too)) so-far
+
+    pub freed-same : Never slot → place (getD slots slot 0) beyond ≤ place (getD slots best 0) beyond → Freed best (slot + 1)
+    freed-same too nearer =
+        leads-same _ best (rank (rest ++ beyond) (getD slots best 0)) slot (omega (arith, beyond-at best never, beyond-at slot too)) so-far
+
+    pub freed-near : rank rest (getD slots slot 0) < length rest → Freed best (slot + 1)
+    freed-near near =
+        leads-same _ best (rank (rest ++ beyond) (getD slots best 0)) slot
+        (omega (arith, beyond-at best never, both-near rest beyond (getD slots slot 0) near)) so-far

@@ -14,14 +14,19 @@ pub record WithinLimits (slots row : List ℕ) : Type 0 where
   pub few-slots : length slots ≤ most-slots
   pub few-draws : length row ≤ most-draws
 
+-- Slots, draws that remain and draws made, all within them.
+pub record WithinBoth (slots rest made : List ℕ) : Type 0 where
+  pub ahead : WithinLimits slots rest
+  pub behind : WithinLimits slots made
+
 -- A rank for each slot of a job.
 pub record SomeRanks (ranks : List ℕ) : Type 0 where
   pub some-slot : 1 ≤ length ranks
   pub few-slots : length ranks ≤ most-slots
 
--- A row as it is looked along: from its front on, or back from its end.
-abbrev pub facing : Bool → List ℕ → List ℕ
-facing back row = cond back (reverse row) row
+-- The row that is looked along: back along the draws made, or both ways.
+abbrev pub facing : Bool → List ℕ → List ℕ → List ℕ
+facing back rest made = cond back (reverse made) (rest ++ reverse made)
 
 -- The ranks of the slots in 64 places, with zeros after them, in every job that has these slots. A load may go into each of them.
 abbrev pub Ranks : List ℕ → List ℕ → List ℕ → Type 0

@@ -1,6 +1,7 @@
 // What each plan asks for in a tick, once a load that ends in it is in its slot.
 use crate::ranks::first_greatest;
-use crate::ranks::furthest;
+use crate::ranks::free_first;
+use crate::ranks::oldest;
 use crate::ranks::ranks_of;
 use crate::search::missing;
 use crate::search::next_draw;
@@ -12,7 +13,7 @@ ghost use lib.ListN.{getD};
 ghost use Rattle.rules.specs.Job.{Job};
 ghost use Rattle.rules.specs.Display.{State};
 ghost use Rattle.rules.specs.Plans.{aggressive};
-ghost use Rattle.choice.specs.Ranks.{WithinLimits, facing};
+ghost use Rattle.choice.specs.Ranks.{WithinLimits, WithinBoth, facing};
 ghost use Rattle.choice.specs.Asks.{CanAsk, MayAsk, Quiet, Seen, asksBy, OnDemand, Earliest, Asked};
 
 // The load of opt that conservative has yet to begin: the draw that missed, the slot and the symbol.
@@ -43,16 +44,22 @@ fn ask_aggressive(slots: &[u16], rest: &[u16]) -> MaybeLoad
     }
 }
 
-// Plans 2 and 3: the awaited symbol where no slot holds it, into the furthest slot along a row, or back along it.
-fn ask_on_demand(slots: &[u16], row: &[u16], back: bool, symbol: u16) -> MaybeLoad
-    requires { ⌜ WithinLimits (now slots) (now row) ⌝ }
-    ensures { λ r. ⌜ OnDemand (now (slots .entry)) (facing back (now (row .entry))) symbol r ⌝ }
+// Plans 2 and 3: the awaited symbol where no slot holds it, into the furthest slot back along the draws made, or both ways.
+fn ask_on_demand(slots: &[u16], rest: &[u16], made: &[u16], back: bool, symbol: u16) -> MaybeLoad
+    requires { ⌜ WithinBoth (now slots) (now rest) (now made) ⌝ }
+    ensures { λ r. ⌜ OnDemand (now (slots .entry)) (facing back (now (rest .entry)) (now (made .entry))) symbol r ⌝ }
 {
     if slot_of(slots, symbol) < slots.len() {
         return MaybeLoad::NoLoad;
     }
+    if back {
+        return MaybeLoad::Load {
+            slot: oldest(slots, made),
+            symbol,
+        };
+    }
     MaybeLoad::Load {
-        slot: furthest(slots, row, back),
+        slot: free_first(slots, rest, made),
         symbol,
     }
 }
@@ -84,7 +91,8 @@ fn ask_earliest(
     MaybeLoad::Load { slot, symbol }
 }
 
-// What the plan asks for with no load under way: lru looks back along the draws made, each other plan along the draws that remain.
+// What the plan asks for with no load under way: lru looks back along the draws made, opt both ways, each other plan along the draws that
+// remain.
 fn choose(plan: u32, slots: &[u16], row: &[u16], next: u16, symbol: u16, order: Order) -> MaybeLoad
     requires { ⌜ CanAsk (now slots) (now row) next ⌝ }
     ensures { λ r. ⌜ ((job : Job) (s : State) → Seen job s (now (slots .entry)) (now (row .entry)) next symbol → r ≡ asksBy plan job order s) ⌝ }
@@ -104,10 +112,8 @@ fn choose(plan: u32, slots: &[u16], row: &[u16], next: u16, symbol: u16, order: 
         };
         return ask_earliest(slots, &row[at..], next, miss, slot, ordered);
     }
-    if plan == 2 {
-        return ask_on_demand(slots, &row[at..], false, symbol);
-    }
-    ask_on_demand(slots, &row[..at], true, symbol)
+    let back = 2 < plan;
+    ask_on_demand(slots, &row[at..], &row[..at], back, symbol)
 }
 
 // What the plan asks for in this tick, with the draws in their row. Where a load is under way nothing is looked for.

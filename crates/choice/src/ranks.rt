@@ -1,14 +1,16 @@
-// The slot that a plan chooses, in two steps: the rank of each slot along a row of draws, and the first slot of the greatest rank.
+// The slot that a plan chooses, in two steps: the rank of each slot along a row of draws, and the first slot of the greatest rank. For opt a
+// third step looks back, where several symbols are never drawn again.
 use crate::search::last_draw;
+use crate::search::older;
 use rules::FREE;
 use rules::MOST_SLOTS;
 ghost use mathlib.Core.Path.{_≡_};
-ghost use mathlib.Core.List.{reverse};
+ghost use mathlib.Core.List.{_++_, reverse};
 ghost use Prim.Native.Nat.{suc, _≤_};
 ghost use lib.ListN.{length};
 ghost use Rattle.rules.specs.Job.{most-draws};
 ghost use Rattle.rules.specs.Plans.{rank};
-ghost use Rattle.choice.specs.Ranks.{WithinLimits, SomeRanks, Ranks, Greatest, Chosen, facing};
+ghost use Rattle.choice.specs.Ranks.{WithinLimits, SomeRanks, Ranks, Greatest, Chosen};
 
 // The ranks along the draws that remain. A slot ranks by the place at which its symbol first comes up, where the search for it is left.
 // A symbol that does not come up ranks above all that do, and a free slot above all. Each rank is one more than this, since 0 is the rank
@@ -84,16 +86,38 @@ pub fn first_greatest(ranks: &[u16]) -> u8
     best
 }
 
-// The slot whose content comes up furthest along a row, or back along the row from its end.
-pub fn furthest(slots: &[u16], row: &[u16], back: bool) -> u8
-    requires { ⌜ WithinLimits (now slots) (now row) ⌝ }
-    ensures { λ r. ⌜ Chosen (now (slots .entry)) (facing back (now (row .entry))) r ⌝ }
+// The slot whose content comes up furthest back along the draws made.
+pub fn oldest(slots: &[u16], made: &[u16]) -> u8
+    requires { ⌜ WithinLimits (now slots) (now made) ⌝ }
+    ensures { λ r. ⌜ Chosen (now (slots .entry)) (reverse (now (made .entry))) r ⌝ }
 {
     let count = slots.len();
-    if back {
-        let ages = ranks_back(slots, row);
-        return first_greatest(&ages[..count]);
+    let ages = ranks_back(slots, made);
+    first_greatest(&ages[..count])
+}
+
+// The slot whose content comes up furthest along the draws that remain and then back along those made. Only where the furthest symbol is
+// never drawn again can another come up as far: then it is looked for, and the one that came free first is taken.
+pub fn free_first(slots: &[u16], rest: &[u16], made: &[u16]) -> u8
+    requires { ⌜ WithinLimits (now slots) (now rest) ⌝ }
+    ensures { λ r. ⌜ Chosen (now (slots .entry)) (now (rest .entry) ++ reverse (now (made .entry))) r ⌝ }
+{
+    let count = slots.len();
+    let ranks = ranks_of(slots, rest);
+    let first = first_greatest(&ranks[..count]);
+    let never = rest.len() as u16 + 1;
+    if ranks[first as usize] != never {
+        return first;
     }
-    let ranks = ranks_of(slots, row);
-    first_greatest(&ranks[..count])
+    let mut best = first;
+    let mut slot = first + 1;
+    while (slot as usize) < count {
+        if ranks[slot as usize] == never {
+            if older(made, slots[slot as usize], slots[best as usize]) {
+                best = slot;
+            }
+        }
+        slot += 1;
+    }
+    best
 }

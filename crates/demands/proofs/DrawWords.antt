@@ -2,16 +2,17 @@
 use Prim.Native.Nat.{ℕ, _+_, _-_, _<_, _≤_}
 use native.Mathlib.Omega.{arith}
 use mathlib.Core.Path.{_≡_, sym, _∙_}
-use mathlib.Core.List.{List, reverse}
-use lib.ListN.{length, getD, take, drop, length-drop, length-reverse}
+use mathlib.Core.List.{List, _++_, reverse}
+use lib.ListN.{length, getD, take, drop, length-append, length-drop, length-reverse}
 use lib.Seq.{getD-drop, getD-take, length-take-le}
 use lib.Dec.{ltb}
 use borrow.Author.Tests.{ltb-true, ltb-false}
 use Rattle.laws.proofs.Rows.{getD-reverse}
 use Rattle.rules.specs.Basics.{place}
 use Rattle.laws.proofs.Cases.{by-test}
-use Rattle.laws.proofs.Search.{place-holds, place-first}
+use Rattle.laws.proofs.Search.{place-holds, place-first, place-within, place-near, place-beyond}
 use Rattle.demands.specs.InWords.{Undrawn, NextDraw, NeverAgain, Later, LastDraw, NotYet, Older}
+use Rattle.demands.specs.InWords.{FreeFirst, done-for, done-first, drawn-later}
 use Rattle.demands.proofs.SlotWords.{Tells}
 
 -- ---- One next draw and one last draw
@@ -39,6 +40,22 @@ module _ (draws : List ℕ) (next : ℕ) where
   pub older-one-way : (x y : ℕ) → Older draws next x y → Older draws next y x → ⊥
   older-one-way x y a b =
       omega (arith, a .longer-ago, b .longer-ago, last-one x (a .i) (b .j) (a .one) (b .other), last-one y (b .i) (a .j) (b .one) (a .other))
+
+  -- A symbol that is never drawn again has no next draw.
+  no-next : (x i : ℕ) → NeverAgain draws next x → NextDraw draws next x i → ⊥
+  no-next x i never n = never i (n .from) (n .here .0) (n .here)
+
+  -- So of two symbols only one came free first.
+  pub free-first-one-way : (x y : ℕ) → FreeFirst draws next x y → FreeFirst draws next y x → ⊥
+  free-first-one-way x y (done-for i never n) (done-for j never′ n′) = no-next x j never n′
+  free-first-one-way x y (done-for i never n) (done-first never′ never″ older) = no-next y i never′ n
+  free-first-one-way x y (done-for i never n) (drawn-later l) = no-next x (l .j) never (l .other)
+  free-first-one-way x y (done-first never never′ older) (done-for i never″ n) = no-next x i never n
+  free-first-one-way x y (done-first never never′ older) (done-first never″ never‴ older′) = older-one-way x y older older′
+  free-first-one-way x y (done-first never never′ older) (drawn-later l) = no-next y (l .i) never′ (l .one)
+  free-first-one-way x y (drawn-later l) (done-for i never n) = no-next y (l .j) never (l .other)
+  free-first-one-way x y (drawn-later l) (done-first never never′ older) = no-next x (l .i) never′ (l .one)
+  free-first-one-way x y (drawn-later l) (drawn-later l′) = later-one-way x y l l′
 
   -- ---- The draws that remain
 
@@ -129,4 +146,50 @@ module _ (draws : List ℕ) (next : ℕ) (within : next ≤ length draws) where
             (ltb-false _ _);
         further = λ x y more found.
             record { i = _; j = _; one = last-found x found; other = last-found y (omega arith); longer-ago = omega (arith, size-made) };
+      }
+
+-- ---- Both ways: the draws that remain, and beyond them those made
+
+module _ (draws : List ℕ) (next : ℕ) (within : next ≤ length draws) where
+  abbrev to-come : List ℕ
+  to-come = drop next draws
+
+  abbrev both : List ℕ
+  both = to-come ++ made draws next within
+
+  -- A symbol comes up among the draws that remain, or is never drawn again and comes up beyond them.
+  found-where : {P : Type 0} (x : ℕ) → (place x both ≡ place x to-come → place x to-come < length to-come → P)
+      → (place x both ≡ length to-come + place x (made draws next within) → NeverAgain draws next x → P) → P
+  found-where x near far =
+      by-test (ltb (place x to-come) (length to-come))
+      (λ t. let found = ltb-true _ _ t in near (place-near x to-come (made draws next within) found) found)
+      (λ t.
+      let past = ltb-false _ _ t in
+      far (place-beyond x to-come (made draws next within) past) (ahead-tells draws next within .never x past))
+
+  -- So they tell what is neither drawn again nor yet drawn, and which of two symbols came free first.
+  pub both-tell : Tells both (λ x. NeverAgain draws next x × NotYet draws next x) (FreeFirst draws next)
+  both-tell =
+      record {
+        never = λ x far.
+            found-where x
+            (λ e found. absurd (omega (arith, length-append to-come (made draws next within))))
+            (λ e again.
+            (again, behind-tells draws next within .never x (omega (arith, length-append to-come (made draws next within)))));
+        absent = λ x none.
+            let past : length to-come ≤ place x to-come = ahead-tells draws next within .absent x (none .0) in
+            let unmet : length (made draws next within) ≤ place x (made draws next within) = behind-tells draws next within .absent x (none .1) in
+            omega (arith, length-append to-come (made draws next within), place-beyond x to-come (made draws next within) past);
+        further = λ x y more found.
+            found-where x
+            (λ e near.
+            found-where y
+            (λ f near′. drawn-later (ahead-tells draws next within .further x y (omega arith) near))
+            (λ f again. absurd (omega arith)))
+            (λ e again.
+            found-where y
+            (λ f near′. done-for _ again (next-found draws next within y near′))
+            (λ f again′.
+            done-first again again′
+            (behind-tells draws next within .further x y (omega arith) (omega (arith, length-append to-come (made draws next within))))));
       }

@@ -14,7 +14,8 @@ use Rattle.rules.specs.Plans.{rank, ranksFrom, greatest, furthest}
 use Rattle.laws.proofs.Cases.{by-test}
 use Rattle.laws.proofs.Search.{place-holds, place-first, place-within}
 use Rattle.laws.proofs.Sane.{Apart}
-use Rattle.plan_laws.proofs.Choice.{chosen-below, greatest-least, length-ranks, rank-at}
+use Rattle.laws.proofs.Ranks.{greatest-least, length-ranks, rank-at}
+use Rattle.plan_laws.proofs.Choice.{chosen-below}
 use Rattle.demands.specs.InWords.{Open, NoSlot, Lowest, Chosen, free-slot, never-slot, further-slot}
 
 -- ---- One slot at most

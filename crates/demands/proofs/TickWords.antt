@@ -14,7 +14,7 @@ use Rattle.rules.specs.declared.Loading.{Loading}
 use Rattle.rules.specs.Basics.{place, stands}
 use Rattle.rules.specs.Job.{Job, free}
 use Rattle.rules.specs.Display.{State, idle, awaited}
-use Rattle.rules.specs.Plans.{rank, furthest, ahead, behind, missing, aggressive, on-demand, opt, lru}
+use Rattle.rules.specs.Plans.{rank, furthest, ahead, behind, both-ways, missing, aggressive, on-demand, optSlot, opt, lru}
 use Rattle.laws.proofs.Cases.{by-test}
 use Rattle.laws.proofs.Jobs.{Proper}
 use Rattle.laws.proofs.Search.{absent, absent-at, place-holds, place-within}
@@ -24,10 +24,11 @@ use Rattle.plan_laws.proofs.States.{rest-drawable}
 use Rattle.plan_laws.proofs.Asking.{asked-load, both-true}
 use Rattle.plan_laws.proofs.OnDemand.{Demanded, demanded}
 use Rattle.plan_laws.proofs.Rising.{missing-most, missing-absent}
-use Rattle.demands.specs.InWords.{DrawOf, Undrawn, NeverAgain, Later, Open, Chosen, FurthestSlot, OldestSlot}
+use Rattle.demands.specs.InWords.{DrawOf, Undrawn, NeverAgain, Later, Open, Chosen, FurthestSlot, OldestSlot, FreeFirstSlot}
 use Rattle.demands.specs.InWords.{Nowhere, Somewhere, Aggressive, OnDemand, Opt, Lru, Begins, begins, none}
 use Rattle.demands.proofs.SlotWords.{chosen-one, furthest-fits}
-use Rattle.demands.proofs.DrawWords.{later-one-way, older-one-way, far-undrawn, undrawn-far, ahead-tells, behind-tells}
+use Rattle.demands.proofs.DrawWords.{later-one-way, older-one-way, free-first-one-way, far-undrawn, undrawn-far}
+use Rattle.demands.proofs.DrawWords.{ahead-tells, behind-tells, both-tell}
 
 -- What is asked for agrees with words: a load that is asked for fits them, and a load that fits them is asked for.
 pub record Agrees (fits : ℕ → ℕ → Type 0) (b : MaybeLoad) : Type 0 where
@@ -70,6 +71,16 @@ module _ (job : Job) (proper : Proper job) where
   oldest-one : (s : State) (q r : ℕ) → OldestSlot job s q → OldestSlot job s r → q ≡ r
   oldest-one s q r a b = chosen-one job _ _ (older-one-way (job .draws) (s .next)) (s .slots) q r a b
 
+  -- The slot found both ways is the one that came free first, and no other is.
+  free-first-slot : (s : State) → SaneState job s → FreeFirstSlot job s (optSlot job s)
+  free-first-slot s g =
+      rw (g .ahead)
+      (furthest-fits job _ (s .slots) _ _ (both-tell (job .draws) (s .next) (g .within)) (g .apart) 0
+      (some-open (s .next) (s .rest) (s .slots) (s .loading) g))
+
+  free-first-one : (s : State) (q r : ℕ) → FreeFirstSlot job s q → FreeFirstSlot job s r → q ≡ r
+  free-first-one s q r a b = chosen-one job _ _ (free-first-one-way (job .draws) (s .next)) (s .slots) q r a b
+
 -- ---- On demand
 
 module _ (job : Job) (Slot : Job → State → ℕ → Type 0) (slot : State → ℕ) (fits : (s : State) → SaneState job s → Slot job s (slot s))
@@ -96,9 +107,7 @@ module _ (job : Job) (Slot : Job → State → ℕ → Type 0) (slot : State →
 
 -- So it is with opt, and with lru.
 pub opt-agrees : (job : Job) → Proper job → (s : State) → SaneState job s → 0 < length (s .rest) → Agrees (Opt job s) (opt job .asks s)
-opt-agrees job proper =
-    demand-agrees job FurthestSlot (λ s. furthest job (ahead s) (s .slots))
-    (λ s g. furthest-slot job proper (s .next) (s .rest) (s .slots) (s .loading) g) (furthest-one job proper)
+opt-agrees job proper = demand-agrees job FreeFirstSlot (optSlot job) (free-first-slot job proper) (free-first-one job proper)
 
 pub lru-agrees : (job : Job) → Proper job → (s : State) → SaneState job s → 0 < length (s .rest) → Agrees (Lru job s) (lru job .asks s)
 lru-agrees job proper =

@@ -1,5 +1,6 @@
--- The four plans as relations over what the slots hold and what is drawn where, with no rank and no search. (Document 01, "The four plans";
--- the quotations are from docs/RULES.md.) A reader who does not trust `rank`, `furthest` and `earliestAt` can trust the plans by this file.
+-- The four plans as relations over what the slots hold and what is drawn where, with no rank and no search. (Document 01, "The four plans",
+-- and document 02, Four; the quotations are from docs/RULES.md.) A reader who does not trust `rank`, `furthest` and `earliestAt` can trust
+-- the plans by this file.
 use Prim.Native.Nat.{ℕ, zero, suc, _+_, _<_, _≤_}
 use mathlib.Core.Path.{_≡_}
 use mathlib.Core.Bool.{true}
@@ -91,6 +92,19 @@ FurthestSlot job s q = Chosen job (NeverAgain (job .draws) (s .next)) (Later (jo
 abbrev pub OldestSlot : Job → State → ℕ → Type 0
 OldestSlot job s q = Chosen job (NotYet (job .draws) (s .next)) (Older (job .draws) (s .next)) (s .slots) q
 
+-- "Opt goes by what came free first": of symbols x and y, x goes before y. Either x is never drawn again and y is; or neither is, and the
+-- last draw of x is earlier; or both are, and the next draw of x is larger.
+pub data FreeFirst (draws : List ℕ) (next x y : ℕ) : Type 0 where
+  done-for : (i : ℕ) → NeverAgain draws next x → NextDraw draws next y i → FreeFirst draws next x y
+  done-first : NeverAgain draws next x → NeverAgain draws next y → Older draws next x y → FreeFirst draws next x y
+  drawn-later : Later draws next x y → FreeFirst draws next x y
+
+-- "A free slot; else, of the symbols that are never drawn again, the one whose last draw so far is earliest, and one that is not yet drawn
+-- before all, in the lowest slot of several; else the furthest."
+abbrev pub FreeFirstSlot : Job → State → ℕ → Type 0
+FreeFirstSlot job s q =
+    Chosen job (λ x. NeverAgain (job .draws) (s .next) x × NotYet (job .draws) (s .next) x) (FreeFirst (job .draws) (s .next)) (s .slots) q
+
 -- ---- What begins: a load of symbol x into slot q, in a state in which a load that ends in this tick is in its slot already
 
 -- No slot holds symbol x.
@@ -121,9 +135,9 @@ pub record OnDemand (job : Job) (Slot : Job → State → ℕ → Type 0) (s : S
   pub nowhere : Nowhere (s .slots) x
   pub slot : Slot job s q
 
--- 2, opt: on demand, into "a free slot, else the slot of the furthest symbol".
+-- 2, opt: on demand, into a free slot, else the slot that came free first.
 abbrev pub Opt : Job → State → ℕ → ℕ → Type 0
-Opt job = OnDemand job FurthestSlot
+Opt job = OnDemand job FreeFirstSlot
 
 -- 3, lru: "begins its loads as opt does, but chooses the slot whose symbol was drawn longest ago".
 abbrev pub Lru : Job → State → ℕ → ℕ → Type 0

@@ -6,6 +6,7 @@ pub mod Places
 pub mod RoundTrip
 pub mod Search
 pub mod Rows
+pub mod Ranks
 pub mod Moves
 pub mod Runs
 pub mod Jobs

@@ -1,9 +1,9 @@
 -- The one search: a step of it, what is at the place it finds, and that nothing before that place is what was looked for.
-use Prim.Native.Nat.{ℕ, zero, suc, _<_, _≤_}
+use Prim.Native.Nat.{ℕ, zero, suc, _+_, _<_, _≤_}
 use native.Mathlib.Omega.{arith}
 use mathlib.Core.Path.{_≡_, sym, _∙_}
 use mathlib.Core.Bool.{true, false}
-use mathlib.Core.List.{List, [], _∷_}
+use mathlib.Core.List.{List, [], _∷_, _++_}
 use lib.ListN.{length, getD, set, length-set}
 use lib.Seq.{getD-set-same, getD-set-other}
 use lib.Dec.{eqb}
@@ -49,6 +49,24 @@ place-first x (y ∷ l) zero h e = rw (eq-eqb x y (sym e)) (omega arith)
 place-first x (y ∷ l) (suc i) h e =
     let more : place x l ≤ i = place-first x l i (omega arith) e in
     by-test (eqb x y) (λ t. rw t (omega arith)) (λ t. rw t (omega arith))
+
+-- Along one row and then another: what the first has is found in it, and what it has not is found in the second.
+pub place-near : (x : ℕ) (l m : List ℕ) → place x l < length l → place x (l ++ m) ≡ place x l
+unfolding place
+place-near x [] m h = absurd (omega arith)
+place-near x (y ∷ l) m h =
+    by-test (eqb x y) (λ e. rw e)
+    (λ e. let g : suc (place x l) < suc (length l) = rw e at h in rw (e, place-near x l m (omega arith)))
+
+pub place-beyond : (x : ℕ) (l m : List ℕ) → length l ≤ place x l → place x (l ++ m) ≡ length l + place x m
+unfolding place
+place-beyond x [] m h = omega arith
+place-beyond x (y ∷ l) m h =
+    by-test (eqb x y) (λ e. absurd (let g : suc (length l) ≤ 0 = rw e at h in omega arith))
+    (λ e.
+    let g : suc (length l) ≤ suc (place x l) = rw e at h in
+    let more : place x (l ++ m) ≡ length l + place x m = place-beyond x l m (omega arith) in
+    rw e (omega arith))
 
 -- What is not in a row is held by none of its places.
 pub absent-at : (x : ℕ) (l : List ℕ) → stands x l ≡ false → (i : ℕ) → i < length l → getD l i 0 ≡ x → ⊥

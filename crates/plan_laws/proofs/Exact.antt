@@ -11,7 +11,7 @@ use Rattle.rules.specs.Basics.{stands}
 use Rattle.rules.specs.Job.{Job}
 use Rattle.rules.specs.LoadList.{last-tick}
 use Rattle.rules.specs.Display.{State, going, start, landedLoading, run}
-use Rattle.rules.specs.Plans.{furthest, ahead, on-demand, opt}
+use Rattle.rules.specs.Plans.{on-demand, optSlot, opt}
 use Rattle.laws.proofs.Jobs.{Proper}
 use Rattle.laws.proofs.Counts.{ahead as ticks-left}
 use Rattle.laws.proofs.Sane.{Sane, SaneMoves, reached-sanely}
@@ -97,7 +97,7 @@ module _ (job : Job) (proper : Proper job) where
   opt-waits : opt-done job proper .last .waits ≡ job .load-time * length (missesOf job)
   opt-waits =
       let d : Done job (opt job) Rising = opt-done job proper in
-      demand-waits job proper (λ s. furthest job (ahead s) (s .slots)) last-tick (d .last) (d .ran) (d .over)
+      demand-waits job proper (optSlot job) last-tick (d .last) (d .ran) (d .over)
       ∙ ap (λ (n : ℕ). job .load-time * n) opt-count
 
   -- Conservative is never later than opt, with the same number of loads.

@@ -9,7 +9,7 @@ use Rattle.rules.specs.declared.MaybeLoad.the-variants.{Load}
 use Rattle.rules.specs.Basics.{stands}
 use Rattle.rules.specs.Job.{Job}
 use Rattle.rules.specs.Display.{State, idle, awaited}
-use Rattle.rules.specs.Plans.{missing, furthest, ahead, behind, on-demand, opt, lru}
+use Rattle.rules.specs.Plans.{missing, furthest, behind, both-ways, on-demand, optSlot, opt, lru}
 use Rattle.laws.proofs.Moves.{Begins, load-free}
 use Rattle.laws.proofs.Jobs.{Proper}
 use Rattle.laws.proofs.Sane.{SaneState, SaneMoves, awaited-symbol}
@@ -68,9 +68,9 @@ module _ (job : Job) (proper : Proper job) (slot : State → ℕ) (below : (s : 
   demand-done =
       done job proper (on-demand slot .asks) Rising demand-moves (omega arith) (λ s more g h. demand-ready s more g) (rising-few job)
 
--- Opt takes the furthest slot along the draws to come, lru along those made. Opt is done in time.
+-- Opt takes the furthest slot both ways, lru along the draws made. Opt is done in time.
 pub opt-done : (job : Job) → Proper job → Done job (opt job) Rising
-opt-done job proper = demand-done job proper (λ s. furthest job (ahead s) (s .slots)) (chosen-slot job proper ahead)
+opt-done job proper = demand-done job proper (optSlot job) (chosen-slot job proper (both-ways job))
 
 -- Lru is done in time.
 pub lru-done : (job : Job) → Proper job → Done job (lru job) Rising

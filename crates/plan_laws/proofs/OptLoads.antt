@@ -10,7 +10,7 @@ use Rattle.rules.specs.declared.Loading.{Loading}
 use Rattle.rules.specs.Basics.{stands}
 use Rattle.rules.specs.Job.{Job, free}
 use Rattle.rules.specs.Display.{State, Loaded, loaded, awaited}
-use Rattle.rules.specs.Plans.{furthest, ahead, opt, runPlan, begunIn}
+use Rattle.rules.specs.Plans.{optSlot, opt, runPlan, begunIn}
 use Rattle.laws.proofs.Rows.{map-snoc}
 use Rattle.laws.proofs.Jobs.{Proper}
 use Rattle.laws.proofs.Sane.{SaneMoves, settled, awaited-symbol, reached-sanely}
@@ -40,7 +40,7 @@ module _ (job : Job) (proper : Proper job) where
         lands = λ s more g h. rw (settled-landed (s .loading) (s .slots)) h;
         passes = λ s more a g h. h;
         begins = λ q x s b g h.
-            let d : Demanded (λ s. furthest job (ahead s) (s .slots)) q x s = demanded (λ s. furthest job (ahead s) (s .slots)) q x s (b .asks) in
+            let d : Demanded (optSlot job) q x s = demanded (optSlot job) q x s (b .asks) in
             let still : settled (s .loading) (s .slots) ≡ s .slots = ap (λ (l : Loading). settled l (s .slots)) (b .quiet) in
             let some : 0 < length (s .slots) = omega (arith, proper .some-slot, g .row) in
             let before : map missOf (s .begun) ++ misses job (s .next) (s .slots) (s .rest) ≡ missesOf job = rw still at h in

@@ -1,7 +1,8 @@
--- The four plans, each as a rule for what begins in a tick. (Document 01, "The four plans")
+-- The four plans, each as a rule for what begins in a tick. (Document 01, "The four plans"; which symbol opt gives up of those never drawn
+-- again: document 02, Four)
 use Prim.Native.Nat.{ℕ, zero, suc, _+_, max}
 use mathlib.Core.Bool.{true, cond, not, _&&_}
-use mathlib.Core.List.{List, [], _∷_, reverse}
+use mathlib.Core.List.{List, [], _∷_, _++_, reverse}
 use lib.ListN.{length, getD, take, drop}
 use lib.Dec.{eqb, ltb, leb}
 use Rattle.rules.specs.declared.MaybeLoad.{MaybeLoad}
@@ -38,6 +39,11 @@ ahead s = s .rest
 abbrev pub behind : Job → State → List ℕ
 behind job s = reverse (take (s .next) (job .draws))
 
+-- For opt it is the draws to come and, beyond them, those made, the latest first. So what is never drawn again is further than all that is;
+-- and of several such symbols one not yet drawn is furthest, then the one whose last draw is earliest. (Document 02, Four)
+abbrev pub both-ways : Job → State → List ℕ
+both-ways job s = ahead s ++ behind job s
+
 -- The first remaining draw whose symbol is in no slot, as a place from the next draw on, or the number of draws that remain.
 unfoldable pub missing : List ℕ → List ℕ → ℕ
 missing slots [] = 0
@@ -63,8 +69,11 @@ abbrev pub on-demand : (State → ℕ) → Rule
 on-demand slot =
     asking (λ s. cond (idle (s .loading) && not (stands (awaited s) (s .slots))) (Load (slot s) (awaited s)) NoLoad)
 
+abbrev pub optSlot : Job → State → ℕ
+optSlot job s = furthest job (both-ways job s) (s .slots)
+
 abbrev pub opt : Job → Rule
-opt job = on-demand (λ s. furthest job (ahead s) (s .slots))
+opt job = on-demand (optSlot job)
 
 abbrev pub lru : Job → Rule
 lru job = on-demand (λ s. furthest job (behind job s) (s .slots))

@@ -355,13 +355,13 @@ telling-plans =
     ∷ row (plan job-none 0 7) (accepts 0 0 0 0)
     ∷ row (plan job-none 0 6) (refuses 7 0)
     ∷ listing job-none 1 (loads 0 [])
-    -- Where several symbols are never drawn again, the lowest slot; for lru where several were not yet drawn.
+    -- Where several symbols are neither drawn again nor yet drawn, the lowest slot.
     ∷ listing (jobBytes 1 (1 ∷ 2 ∷ 3 ∷ []) (4 ∷ [])) 0 (loads 1 (load 0 0 4))
     ∷ listing (jobBytes 1 (1 ∷ 2 ∷ 3 ∷ []) (4 ∷ [])) 1 (loads 1 (load 0 0 4))
     ∷ listing (jobBytes 1 (1 ∷ 2 ∷ 3 ∷ []) (4 ∷ [])) 2 (loads 1 (load 0 0 4))
     ∷ listing (jobBytes 1 (1 ∷ 2 ∷ 3 ∷ []) (4 ∷ [])) 3 (loads 1 (load 0 0 4))
-    -- The furthest in a middle slot, and then the lowest of those done; never drawn again is further than the last draw.
-    ∷ listing (jobBytes 1 (1 ∷ 2 ∷ 3 ∷ []) (4 ∷ 1 ∷ 3 ∷ 2 ∷ [])) 2 (loads 2 (load 0 1 4 ++ load 4 0 2))
+    -- The furthest in a middle slot, and then the first of those done; never drawn again is further than the last draw.
+    ∷ listing (jobBytes 1 (1 ∷ 2 ∷ 3 ∷ []) (4 ∷ 1 ∷ 3 ∷ 2 ∷ [])) 2 (loads 2 (load 0 1 4 ++ load 4 1 2))
     ∷ listing (jobBytes 1 (1 ∷ 2 ∷ 3 ∷ []) (4 ∷ 1 ∷ 2 ∷ [])) 2 (loads 1 (load 0 2 4))
     -- A free slot before any held symbol, and the lowest free slot first.
     ∷ listing (jobBytes 1 (5 ∷ 65535 ∷ []) (7 ∷ [])) 2 (loads 1 (load 0 1 7))
@@ -382,12 +382,10 @@ telling-plans =
     ∷ listing (jobBytes 1 (1 ∷ 2 ∷ []) (1 ∷ 2 ∷ 1 ∷ 3 ∷ [])) 0 (loads 1 (load 2 1 3))
     ∷ planning (jobBytes 1 (1 ∷ 2 ∷ []) (1 ∷ 2 ∷ 1 ∷ 3 ∷ [])) 0 (accepts 4 0 1 0)
     -- Conservative takes opt's choice at the miss, and not a symbol that is done earlier; its loads keep opt's order.
-    ∷ planning (jobBytes 2 (1 ∷ 2 ∷ []) (2 ∷ 1 ∷ 3 ∷ [])) 1 (accepts 5 2 1 2)
-    ∷ listing (jobBytes 2 (1 ∷ 2 ∷ []) (2 ∷ 1 ∷ 3 ∷ [])) 1 (loads 1 (load 2 0 3))
     ∷ listing job-c 1 (loads 1 (load 2 1 5))
-    ∷ listing (jobBytes 2 (1 ∷ 2 ∷ []) (1 ∷ 2 ∷ 3 ∷ 4 ∷ [])) 1 (loads 2 (load 1 0 3 ++ load 4 0 4))
-    ∷ planning (jobBytes 2 (1 ∷ 2 ∷ []) (1 ∷ 2 ∷ 3 ∷ 4 ∷ [])) 1 (accepts 7 3 2 2)
-    ∷ listing (jobBytes 2 (1 ∷ 2 ∷ []) (1 ∷ 2 ∷ 3 ∷ 4 ∷ [])) 2 (loads 2 (load 2 0 3 ++ load 5 0 4))
+    ∷ listing (jobBytes 2 (1 ∷ 2 ∷ []) (1 ∷ 2 ∷ 3 ∷ 4 ∷ [])) 1 (loads 2 (load 1 0 3 ++ load 3 1 4))
+    ∷ planning (jobBytes 2 (1 ∷ 2 ∷ []) (1 ∷ 2 ∷ 3 ∷ 4 ∷ [])) 1 (accepts 6 2 2 1)
+    ∷ listing (jobBytes 2 (1 ∷ 2 ∷ []) (1 ∷ 2 ∷ 3 ∷ 4 ∷ [])) 2 (loads 2 (load 2 0 3 ++ load 5 1 4))
     -- Lru goes by the last draw of a symbol and not by its load; a symbol not yet drawn goes before a drawn one.
     ∷ planning (jobBytes 1 (1 ∷ 2 ∷ []) (2 ∷ 1 ∷ 3 ∷ 1 ∷ [])) 3 (accepts 5 1 1 1)
     ∷ listing (jobBytes 1 (1 ∷ 2 ∷ []) (2 ∷ 1 ∷ 3 ∷ 1 ∷ [])) 3 (loads 1 (load 2 1 3))
@@ -401,6 +399,49 @@ telling-plans =
     -- A load time of two bytes, and ticks above 255 in a list.
     ∷ planning (jobBytes 300 (1 ∷ []) (2 ∷ 1 ∷ [])) 2 (accepts 602 600 2 300)
     ∷ listing (jobBytes 300 (1 ∷ []) (2 ∷ 1 ∷ [])) 2 (loads 2 (load 0 0 2 ++ load 301 0 1))
+    ∷ []
+
+-- ---- Document 02, Four: the slot that came free first
+
+-- Of two symbols that are done for, the one in the higher slot was done first.
+abbrev pub job-freed : List ℕ
+job-freed = jobBytes 2 (1 ∷ 2 ∷ []) (2 ∷ 1 ∷ 3 ∷ [])
+
+-- Of three, one is not yet drawn, and it is in the highest slot.
+abbrev pub job-unmet : List ℕ
+job-unmet = jobBytes 1 (1 ∷ 2 ∷ 9 ∷ []) (2 ∷ 1 ∷ 3 ∷ [])
+
+-- With a slot free at first.
+abbrev pub job-room : List ℕ
+job-room = jobBytes 1 (1 ∷ 2 ∷ 65535 ∷ []) (2 ∷ 1 ∷ 3 ∷ 4 ∷ [])
+
+-- The symbol that was drawn longest ago is drawn again.
+abbrev pub job-again : List ℕ
+job-again = jobBytes 1 (1 ∷ 2 ∷ 3 ∷ []) (1 ∷ 3 ∷ 2 ∷ 4 ∷ 1 ∷ [])
+
+unfoldable pub telling-ties : List Row
+telling-ties =
+    -- The one whose last draw is earliest: so conservative is done at 4, and was done at 5 by the lowest slot.
+    planning job-freed 1 (accepts 4 1 1 1)
+    ∷ listing job-freed 1 (loads 1 (load 1 1 3))
+    ∷ planning job-freed 2 (accepts 5 2 1 2)
+    ∷ listing job-freed 2 (loads 1 (load 2 1 3))
+    -- It is the last draw that counts, and not the first.
+    ∷ listing (jobBytes 1 (1 ∷ 2 ∷ []) (2 ∷ 1 ∷ 2 ∷ 3 ∷ [])) 2 (loads 1 (load 3 0 3))
+    ∷ listing (jobBytes 1 (1 ∷ 2 ∷ []) (1 ∷ 2 ∷ 1 ∷ 3 ∷ [])) 2 (loads 1 (load 3 1 3))
+    -- One that is not yet drawn goes before all that were, and the lowest of several such.
+    ∷ listing job-unmet 1 (loads 1 (load 0 2 3))
+    ∷ listing job-unmet 2 (loads 1 (load 2 2 3))
+    ∷ listing (jobBytes 1 (2 ∷ 8 ∷ 9 ∷ []) (2 ∷ 3 ∷ [])) 2 (loads 1 (load 1 1 3))
+    -- A free slot before all of them; then the one in the middle slot came free first.
+    ∷ listing job-room 1 (loads 2 (load 0 2 3 ++ load 1 1 4))
+    ∷ listing job-room 2 (loads 2 (load 2 2 3 ++ load 4 1 4))
+    -- Opt keeps what is drawn again, though it was drawn longest ago; lru does not.
+    ∷ listing job-again 2 (loads 1 (load 3 2 4))
+    ∷ listing job-again 3 (loads 2 (load 3 0 4 ++ load 5 2 1))
+    -- Aggressive takes the lowest slot of those done, also where another came free first.
+    ∷ listing (jobBytes 3 (1 ∷ 2 ∷ 9 ∷ []) (2 ∷ 1 ∷ 4 ∷ 5 ∷ [])) 0 (loads 2 (load 0 2 4 ++ load 3 0 5))
+    ∷ listing (jobBytes 3 (1 ∷ 2 ∷ 9 ∷ []) (2 ∷ 1 ∷ 4 ∷ 5 ∷ [])) 1 (loads 2 (load 0 2 4 ++ load 3 1 5))
     ∷ []
 
 -- ---- "Refusal numbers": lent memory, and the bytes for C
@@ -456,6 +497,10 @@ told-apart-records = refl
 pub told-apart-plans : map found telling-plans ≡ map expected telling-plans
 unfolding telling-plans symbolBytes planned run tick beginning happened place symbols doubled missing ranksFrom greatest eventsBytes
 told-apart-plans = refl
+
+pub told-apart-ties : map found telling-ties ≡ map expected telling-ties
+unfolding telling-ties symbolBytes planned run tick beginning happened place symbols doubled missing ranksFrom greatest eventsBytes
+told-apart-ties = refl
 
 pub told-apart-memory : map found telling-memory ≡ map expected telling-memory
 unfolding telling-memory filled symbolBytes planned checked run tick beginning happened place symbols doubled ranksFrom greatest

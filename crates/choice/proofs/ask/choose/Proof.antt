@@ -1,13 +1,15 @@
--- `choose` meets its contract: the plan's number picks the plan's own question, and lru looks at another part of the row.
+-- `choose` meets its contract: the plan's number picks the plan's own question, and says whether the look is back alone.
 use Prim.Native.Nat.{ℕ}
 use native.Mathlib.Omega.{arith}
 use mathlib.Core.List.{List}
 use mathlib.Core.Path.{_≡_, sym, _∙_}
 use lib.ListN.{length, take}
 use lib.Seq.{length-take-le}
+use lib.Dec.{ltb}
 use borrow.Author.Needs.{needs}
+use borrow.Author.Tests.{ltb-true, ltb-false}
 use Rattle.rules.specs.declared.MaybeLoad.the-variants.{NoLoad}
-use Rattle.choice.proofs.Asked.{by-aggressive, by-order, asks-opt, asks-lru, part-to-end}
+use Rattle.choice.proofs.Asked.{by-aggressive, by-order, asks-demand, part-to-end}
 use Rattle.choice.proofs.ask.choose.Statement.{statement}
 use Rattle.choice.proofs.ask.choose.Tie as tie
 
@@ -86,18 +88,6 @@ part-ask-on-demand-start c = search needs
 part-ask-on-demand-end : tie.Need-part-ask-on-demand-end
 part-ask-on-demand-end c = search needs
 
-ask-on-demand-requires : tie.Need-ask-on-demand-requires
-ask-on-demand-requires c κs = search needs
-
-returns-4 : tie.Need-returns-4
-returns-4 c =
-    let after : tie.After-ask-on-demand = search in
-    let begun : tie.Start = search in
-    let a = begun .args in
-    λ job s seen.
-    asks-opt job (a .order) s (after .ask-on-demand .result) (a .slots .now) (a .row .now) (a .next) (a .symbol) seen (a .plan) (search) _
-    (part-to-end (a .next) (a .row .now)) (after .ask-on-demand .ensures)
-
 -- The draws made are as many as the next draw number says.
 module _ (s : tie.Start) where
   abbrev row : List ℕ
@@ -112,20 +102,23 @@ module _ (s : tie.Start) where
 slice-aggregate-ask-on-demand : tie.Need-slice-aggregate-ask-on-demand
 slice-aggregate-ask-on-demand c = let s : tie.Start = search in made-size s
 
-ask-on-demand-requires-2 : tie.Need-ask-on-demand-requires-2
-ask-on-demand-requires-2 c κs =
+ask-on-demand-requires : tie.Need-ask-on-demand-requires
+ask-on-demand-requires c κs =
     let s : tie.Start = search in
     let size = made-size s in
-    record { some-slot = search needs; few-slots = search needs; few-draws = omega arith }
+    record {
+      ahead = search needs;
+      behind = record { some-slot = search needs; few-slots = search needs; few-draws = omega arith };
+    }
 
-returns-5 : tie.Need-returns-5
-returns-5 c =
-    let after : tie.After-ask-on-demand2 = search in
+returns-4 : tie.Need-returns-4
+returns-4 c =
+    let after : tie.After-ask-on-demand = search in
     let begun : tie.Start = search in
     let a = begun .args in
     λ job s seen.
-    asks-lru job (a .order) s (after .ask-on-demand2 .result) (a .slots .now) (a .row .now) (a .next) (a .symbol) seen (a .plan) (omega arith)
-    (after .ask-on-demand2 .ensures)
+    asks-demand job (a .order) s (after .ask-on-demand .result) (a .slots .now) (a .row .now) (a .next) (a .symbol) seen (a .plan)
+    (ltb 2 (a .plan)) _ (part-to-end (a .next) (a .row .now)) (after .ask-on-demand .ensures) (λ t. omega (arith, ltb-true)) (λ t. omega (arith, ltb-false))
 
 pub choose-spec : {M : Type 1} → statement M
 choose-spec =
@@ -150,8 +143,6 @@ choose-spec =
     sub-ask-on-demand
     part-ask-on-demand-start
     part-ask-on-demand-end
-    ask-on-demand-requires
-    returns-4
     slice-aggregate-ask-on-demand
-    ask-on-demand-requires-2
-    returns-5)
+    ask-on-demand-requires
+    returns-4)

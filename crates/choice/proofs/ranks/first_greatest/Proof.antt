@@ -1,16 +1,21 @@
--- `first_greatest` meets its contract: the ranks left to look at give what all give.
-use Prim.Native.Nat.{_-_, _<_, _≤_}
+-- `first_greatest` meets its contract: of the ranks looked at, the best leads.
+use Prim.Native.Nat.{ℕ, _-_, _<_, _≤_}
 use native.Mathlib.Omega.{arith}
 use mathlib.Core.Logic.{⊎-elim}
 use mathlib.Core.Path.{_≡_}
+use mathlib.Core.List.{List}
 use lib.ListN.{length, getD}
 use borrow.Author.Needs.{needs}
-use Rattle.choice.proofs.Ranking.{Left, left-all, left-none, left-more, left-same}
+use Rattle.laws.proofs.Ranks.{Leads, leads-none, leads-more, leads-same, leads-search}
 use Rattle.choice.proofs.ranks.first_greatest.Statement.{statement}
 use Rattle.choice.proofs.ranks.first_greatest.Tie as tie
 
+-- The rank at a place.
+abbrev at : List ℕ → ℕ → ℕ
+at ranks i = getD ranks i 0
+
 abbrev Inv-loop : tie.InvT-loop
-Inv-loop ranks best₀ most₀ slot₀ best most slot = (slot ≤ length ranks) × (best < length ranks) × Left ranks best most slot
+Inv-loop ranks best₀ most₀ slot₀ best most slot = (slot ≤ length ranks) × (best < length ranks) × Leads (at ranks) best most slot
 
 abbrev μ-loop : tie.MeasureT-loop
 μ-loop ranks best₀ most₀ slot₀ best most slot = length ranks - slot
@@ -18,7 +23,7 @@ abbrev μ-loop : tie.MeasureT-loop
 loop-holds : tie.Need-loop-holds Inv-loop μ-loop
 loop-holds c =
     let s : tie.Start Inv-loop μ-loop = search in
-    (omega arith, omega arith, left-all (s .args .ranks .now))
+    (omega arith, omega arith, leads-none (at (s .args .ranks .now)))
 
 cast-loop : tie.Need-cast-loop Inv-loop μ-loop
 cast-loop c = omega arith
@@ -45,27 +50,28 @@ loop-again c =
     let ranks = s .args .ranks .now in
     let l = p .loop in
     let rank = getD ranks (l .slot) 0 in
-    let within : l .slot < length ranks = search in
-    let left : Left ranks (l .best) (l .most) (l .slot) = search in
+    let leads : Leads (at ranks) (l .best) (l .most) (l .slot) = search in
     let chosen = c .if1 in
     ⊎-elim
     (λ w.
     let best : chosen .best ≡ l .slot = search in
     let most : chosen .most ≡ rank = search in
-    (omega arith, omega arith, rw (best, most) (left-more ranks (l .best) (l .most) (l .slot) within (search) left)))
+    (omega arith, omega arith, rw (best, most) (leads-more (at ranks) (l .best) (l .most) (l .slot) (search) leads)))
     (λ w.
     let best : chosen .best ≡ l .best = search in
     let most : chosen .most ≡ l .most = search in
-    (omega arith, omega arith, rw (best, most) (left-same ranks (l .best) (l .most) (l .slot) within (search) left)))
+    (omega arith, omega arith, rw (best, most) (leads-same (at ranks) (l .best) (l .most) (l .slot) (search) leads)))
     (chosen .came)
 
 returns : tie.Need-returns Inv-loop μ-loop
 returns c =
     let s : tie.Start Inv-loop μ-loop = search in
     let p : tie.At-loop Inv-loop μ-loop = search in
+    let ranks = s .args .ranks .now in
     let l = p .loop in
-    let left : Left (s .args .ranks .now) (l .best) (l .most) (l .slot) = search in
-    record { first = left-none (s .args .ranks .now) (l .best) (l .most) (l .slot) (search) left; within = search }
+    let leads : Leads (at ranks) (l .best) (l .most) (l .slot) = search in
+    let whole : l .slot ≡ length ranks = omega arith in
+    record { first = leads-search ranks (l .best) (l .most) (search) (rw whole at leads); within = search }
 
 pub first-greatest-spec : {M : Type 1} → statement M
 first-greatest-spec =
