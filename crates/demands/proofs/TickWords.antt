@@ -6,7 +6,7 @@ use mathlib.Core.Bool.{true, false, _&&_}
 use mathlib.Core.List.{List, [], _∷_}
 use lib.ListN.{length, getD, drop}
 use lib.Seq.{getD-drop}
-use lib.Dec.{eqb, ltb, leb}
+use lib.Dec.{ltb, leb}
 use borrow.Author.Tests.{ltb-true, lt-ltb, leb-true, le-leb}
 use Rattle.rules.specs.declared.MaybeLoad.{MaybeLoad}
 use Rattle.rules.specs.declared.MaybeLoad.the-variants.{Load, NoLoad}
@@ -17,9 +17,9 @@ use Rattle.rules.specs.Display.{State, idle, awaited}
 use Rattle.rules.specs.Plans.{rank, furthest, ahead, behind, both-ways, missing, aggressive, on-demand, optSlot, opt, lru}
 use Rattle.laws.proofs.Cases.{by-test}
 use Rattle.laws.proofs.Jobs.{Proper}
-use Rattle.laws.proofs.Search.{absent, absent-at, place-holds, place-within}
+use Rattle.laws.proofs.Search.{absent, absent-at, place-holds}
 use Rattle.laws.proofs.Sane.{Sane, SaneState, remaining, awaited-is}
-use Rattle.plan_laws.proofs.Choice.{rank-place}
+use Rattle.plan_laws.proofs.Choice.{rank-place, place-rank}
 use Rattle.plan_laws.proofs.States.{rest-drawable}
 use Rattle.plan_laws.proofs.Asking.{asked-load, both-true}
 use Rattle.plan_laws.proofs.OnDemand.{Demanded, demanded}
@@ -128,11 +128,6 @@ missing-held slots (x ∷ rest) (suc i) h =
 -- A symbol that is found is in a slot.
 somewhere : (slots : List ℕ) (x : ℕ) → stands x slots ≡ true → Somewhere slots x
 somewhere slots x e = let found = ltb-true (place x slots) (length slots) e in (place x slots, found, place-holds x slots found)
-
--- A rank is no lower than the place.
-place-rank : (row : List ℕ) (x : ℕ) → place x row ≤ rank row x
-place-rank row x =
-    let upto : place x row ≤ length row = place-within x row in by-test (eqb x free) (λ t. rw t (omega arith)) (λ t. rw t (omega arith))
 
 module _ (job : Job) (next : ℕ) (rest slots : List ℕ) (loading : Loading) (g : Sane job next rest slots loading) where
   -- The draws that remain, by their places.

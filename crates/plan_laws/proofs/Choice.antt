@@ -13,7 +13,7 @@ use Rattle.rules.specs.Job.{Job, free}
 use Rattle.rules.specs.Display.{State, loadable}
 use Rattle.rules.specs.Plans.{rank, ranksFrom, greatest, furthest, optSlot}
 use Rattle.laws.proofs.Cases.{by-test}
-use Rattle.laws.proofs.Search.{place-holds, place-near, place-beyond}
+use Rattle.laws.proofs.Search.{place-holds, place-within, place-near, place-beyond}
 use Rattle.laws.proofs.Ranks.{greatest-least, greatest-stands, length-ranks, rank-at}
 use Rattle.plan_laws.proofs.Counting.{total-full, soon, soon-yes, soon-place, useful}
 
@@ -43,11 +43,16 @@ chosen-furthest job row slots all i h =
     omega (arith, ranked i h, ranked q less)
 
 -- The rank of a symbol is its place, and what has its rank within the row is a symbol.
-rank-symbol : (row : List ℕ) (x : ℕ) → (x ≡ free → ⊥) → rank row x ≡ place x row
+pub rank-symbol : (row : List ℕ) (x : ℕ) → (x ≡ free → ⊥) → rank row x ≡ place x row
 rank-symbol row x h = rw (ne-eqb x free h)
 
 rank-least : (row : List ℕ) (x : ℕ) → rank row x ≤ length row → place x row ≤ rank row x
 rank-least row x h = by-test (eqb x free) (λ e. absurd (omega (arith, rw e at h))) (λ e. rw e (omega arith))
+
+-- A rank is no lower than the place.
+pub place-rank : (row : List ℕ) (x : ℕ) → place x row ≤ rank row x
+place-rank row x =
+    let upto : place x row ≤ length row = place-within x row in by-test (eqb x free) (λ t. rw t (omega arith)) (λ t. rw t (omega arith))
 
 -- What comes up at p or later comes up no earlier by its place, whether it is a symbol or marks a free slot.
 pub rank-place : (row : List ℕ) (x p : ℕ) → stands free row ≡ false → p ≤ length row → p ≤ rank row x → p ≤ place x row

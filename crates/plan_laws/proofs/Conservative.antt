@@ -1,5 +1,6 @@
 -- Conservative works opt's loads off, each as early as it may. At every tick the loads still to make are the misses that opt would have from
--- here on, with the load under way counted as landed; so conservative never misses with nothing to load, and makes exactly opt's loads.
+-- here on, with the load under way counted as landed; so conservative never misses with nothing to load, and makes exactly opt's loads. It
+-- would be so with the loads of any plan on demand.
 use Prim.Native.Nat.{ℕ, suc, _+_, _-_, _<_, _≤_}
 use native.Mathlib.Omega.{arith}
 use mathlib.Core.Path.{_≡_, refl, sym, ap, _∙_}
@@ -22,13 +23,13 @@ use Rattle.laws.proofs.Rows.{map-snoc}
 use Rattle.laws.proofs.Jobs.{Proper}
 use Rattle.laws.proofs.Moves.{load-free}
 use Rattle.laws.proofs.Sane.{SaneState, SaneMoves, settled, awaited-symbol}
-use Rattle.plan_laws.proofs.Choice.{drawn-symbol}
-use Rattle.plan_laws.proofs.Misses.{Miss, miss, misses, misses-over, misses-most, misses-drawn, misses-now, First, first}
+use Rattle.plan_laws.proofs.Choice.{choice, choice-below, drawn-symbol}
+use Rattle.plan_laws.proofs.Misses.{Miss, miss, Choosing, Below, missesBy, by-over, by-most, by-drawn, by-now, First, first}
 use Rattle.plan_laws.proofs.States.{rest-drawable, settled-landed, settled-holds}
 use Rattle.plan_laws.proofs.Asking.{asked-load, asked-none, both-true}
 use Rattle.plan_laws.proofs.Going.{Ready}
 use Rattle.plan_laws.proofs.Keeping.{Done, done, done-with}
-use Rattle.plan_laws.proofs.OptLoads.{missOf, missesOf, opt-loads}
+use Rattle.plan_laws.proofs.OptLoads.{missOf, allBy, missesOf, opt-loads}
 
 -- One more of a list is taken.
 one-further : (n : ℕ) (l : List Loaded) (a : Loaded) (later : List Loaded) → drop n l ≡ a ∷ later
@@ -78,43 +79,44 @@ asked-now (loaded t m r y ∷ left) s q x later e quiet none =
     let z : _≡_ {A = ℕ} 0 1 = cc in
     omega arith
 
--- All of these loads are made, slot for slot and symbol for symbol in their order, as many as opt has misses.
-pub record LoadsMade (job : Job) (loads : List Loaded) (s : State) : Type 0 where
-  pub count : s .loads ≡ length (missesOf job)
+-- All of these loads are made, slot for slot and symbol for symbol in their order, as many as there are misses.
+pub record LoadsMade (misses : List Miss) (loads : List Loaded) (s : State) : Type 0 where
+  pub count : s .loads ≡ length misses
   pub same : map loadOf (s .begun) ≡ map loadOf loads
 
-module _ (job : Job) (proper : Proper job) (loads : List Loaded) (all : map missOf loads ≡ missesOf job) where
-  record Early (next : ℕ) (rest slots : List ℕ) (loading : Loading) (count : ℕ) (begun : List Loaded) : Type 0 where
-    to-come : misses job next (settled loading slots) rest ≡ map missOf (drop count loads)
-    upto : count ≤ length loads
-    so-far : map loadOf begun ≡ map loadOf (take count loads)
+module _ (job : Job) (proper : Proper job) (pick : Choosing) (below : Below pick) (loads : List Loaded)
+    (all : map missOf loads ≡ allBy pick job) where
+  pub record Early (next : ℕ) (rest slots : List ℕ) (loading : Loading) (count : ℕ) (begun : List Loaded) : Type 0 where
+    pub to-come : missesBy pick next (settled loading slots) rest ≡ map missOf (drop count loads)
+    pub upto : count ≤ length loads
+    pub so-far : map loadOf begun ≡ map loadOf (take count loads)
 
-  abbrev EarlyState : State → Type 0
+  abbrev pub EarlyState : State → Type 0
   EarlyState s = Early (s .next) (s .rest) (s .slots) (s .loading) (s .loads) (s .begun)
 
   -- The load asked for, seen as opt's next miss.
   first-asked : (s : State) → SaneState job s → EarlyState s → (q x : ℕ) (a : Asked (drop (s .loads) loads) s q x)
-      → First job (s .next) (s .slots) (s .rest) (a .miss) q x (map missOf (a .later))
+      → First pick (s .next) (s .slots) (s .rest) (a .miss) q x (map missOf (a .later))
   first-asked s g h q x a =
       let still : settled (s .loading) (s .slots) ≡ s .slots = settled-idle (s .loading) (s .slots) (a .quiet) in
-      let coming : misses job (s .next) (s .slots) (s .rest) ≡ map missOf (drop (s .loads) loads) = rw still at (h .to-come) in
+      let coming : missesBy pick (s .next) (s .slots) (s .rest) ≡ map missOf (drop (s .loads) loads) = rw still at (h .to-come) in
       let some : 0 < length (s .slots) = omega (arith, proper .some-slot, g .row) in
-      first job (s .next) (s .slots) (s .rest) (a .miss) q x (map missOf (a .later)) some (coming ∙ ap (map missOf) (a .head))
+      first pick below (s .next) (s .slots) (s .rest) (a .miss) q x (map missOf (a .later)) some (coming ∙ ap (map missOf) (a .head))
 
   early-ready : (s : State) → 0 < length (s .rest) → SaneState job s → EarlyState s → Ready job (conservative loads .asks) s
   early-ready s more g h =
       record {
         permitted = λ q x e.
             let a : Asked (drop (s .loads) loads) s q x = asked (drop (s .loads) loads) s q x e in
-            let f : First job (s .next) (s .slots) (s .rest) (a .miss) q x (map missOf (a .later)) = first-asked s g h q x a in
+            let f : First pick (s .next) (s .slots) (s .rest) (a .miss) q x (map missOf (a .later)) = first-asked s g h q x a in
             let drawable : stands free (s .rest) ≡ false = rest-drawable job (s .next) (s .rest) (s .slots) (s .loading) proper g in
             load-free job q x s (a .quiet) (rw (g .row) at (f .below)) (drawn-symbol (s .rest) x drawable (f .drawn)) (f .absent);
         served = λ e quiet.
             by-test (stands (awaited s) (s .slots)) (λ t. t)
             (λ t.
             let still : settled (s .loading) (s .slots) ≡ s .slots = settled-idle (s .loading) (s .slots) (ap idle quiet) in
-            let coming : misses job (s .next) (s .slots) (s .rest) ≡ map missOf (drop (s .loads) loads) = rw still at (h .to-come) in
-            let now = misses-now job (s .next) (s .slots) (s .rest) (omega (arith, proper .some-slot, g .row)) more t in
+            let coming : missesBy pick (s .next) (s .slots) (s .rest) ≡ map missOf (drop (s .loads) loads) = rw still at (h .to-come) in
+            let now = by-now pick below (s .next) (s .slots) (s .rest) (omega (arith, proper .some-slot, g .row)) more t in
             absurd (asked-now (drop (s .loads) loads) s _ _ _ (sym coming ∙ now) quiet e));
       }
 
@@ -125,7 +127,7 @@ module _ (job : Job) (proper : Proper job) (loads : List Loaded) (all : map miss
         passes = λ s more a g h. h;
         begins = λ q x s b g h.
             let a : Asked (drop (s .loads) loads) s q x = asked (drop (s .loads) loads) s q x (b .asks) in
-            let f : First job (s .next) (s .slots) (s .rest) (a .miss) q x (map missOf (a .later)) = first-asked s g h q x a in
+            let f : First pick (s .next) (s .slots) (s .rest) (a .miss) q x (map missOf (a .later)) = first-asked s g h q x a in
             let (front, behind, fewer) = one-further (s .loads) loads (loaded (a .t) (a .miss) q x) (a .later) (a .head) in
             record {
               to-come = rw (set-set, behind) (f .early (a .enough));
@@ -139,7 +141,7 @@ module _ (job : Job) (proper : Proper job) (loads : List Loaded) (all : map miss
             let held : stands (awaited s) (settled (s .loading) (s .slots)) ≡ true =
             settled-holds job (s .next) (s .rest) (s .slots) (s .loading) (awaited s) g symbol (d .held) in
             record {
-              to-come = rw (misses-drawn job (s .next) (settled (s .loading) (s .slots)) (s .rest) (d .more) held) at (h .to-come);
+              to-come = rw (by-drawn pick (s .next) (settled (s .loading) (s .slots)) (s .rest) (d .more) held) at (h .to-come);
               upto = h .upto;
               so-far = h .so-far;
             };
@@ -148,8 +150,8 @@ module _ (job : Job) (proper : Proper job) (loads : List Loaded) (all : map miss
 
   early-few : (s : State) → SaneState job s → EarlyState s → s .loads ≤ length (job .draws)
   early-few s g h =
-      let size : length loads ≡ length (missesOf job) = sym (length-map loads missOf) ∙ ap length all in
-      omega (arith, h .upto, misses-most job 0 (job .starting) (job .draws))
+      let size : length loads ≡ length (allBy pick job) = sym (length-map loads missOf) ∙ ap length all in
+      omega (arith, h .upto, by-most pick 0 (job .starting) (job .draws))
 
   early-done : Done job (conservative loads) EarlyState
   early-done =
@@ -158,11 +160,11 @@ module _ (job : Job) (proper : Proper job) (loads : List Loaded) (all : map miss
   -- At the last draw no miss is to come, so none of the loads is left.
   early-all : (s : State) → s .rest ≡ [] → EarlyState s → s .loads ≡ length loads
   early-all s over h =
-      let none : map missOf (drop (s .loads) loads) ≡ [] = sym (h .to-come) ∙ misses-over job _ _ (s .rest) over in
+      let none : map missOf (drop (s .loads) loads) ≡ [] = sym (h .to-come) ∙ by-over pick _ _ (s .rest) over in
       let left : length (drop (s .loads) loads) ≡ 0 = sym (length-map (drop (s .loads) loads) missOf) ∙ ap length none in
       omega (arith, length-drop (s .loads) loads, h .upto)
 
-  early-made : Done job (conservative loads) (λ s. LoadsMade job loads s)
+  pub early-made : Done job (conservative loads) (λ s. LoadsMade (allBy pick job) loads s)
   early-made =
       let d : Done job (conservative loads) EarlyState = early-done in
       let many : d .last .loads ≡ length loads = early-all (d .last) (d .over) (d .kept) in
@@ -171,5 +173,6 @@ module _ (job : Job) (proper : Proper job) (loads : List Loaded) (all : map miss
       (record { count = many ∙ sym (length-map loads missOf) ∙ ap length all; same = d .kept .so-far ∙ ap (map loadOf) every })
 
 -- Conservative is never refused, is done in time, and makes exactly opt's loads.
-pub conservative-done : (job : Job) → Proper job → Done job (ruleOf job 1) (λ s. LoadsMade job (begunIn (runPlan job (opt job))) s)
-conservative-done job proper = early-made job proper (begunIn (runPlan job (opt job))) (opt-loads job proper)
+pub conservative-done : (job : Job) → Proper job → Done job (ruleOf job 1) (λ s. LoadsMade (missesOf job) (begunIn (runPlan job (opt job))) s)
+conservative-done job proper =
+    early-made job proper (choice job) (choice-below job) (begunIn (runPlan job (opt job))) (opt-loads job proper)

@@ -2,6 +2,9 @@ pub mod Search
 pub mod Counting
 pub mod Choice
 pub mod Misses
+pub mod Ready
+pub mod Level
+pub mod Alike
 pub mod Against
 pub mod Going
 pub mod Clock
