@@ -10,7 +10,7 @@ use borrow.Author.Tests.{ltb-true, ltb-false}
 use Rattle.laws.proofs.Rows.{getD-reverse}
 use Rattle.rules.specs.Basics.{place}
 use Rattle.laws.proofs.Cases.{by-test}
-use Rattle.laws.proofs.Search.{place-holds, place-first, place-within, place-near, place-beyond}
+use Rattle.laws.proofs.Search.{place-holds, place-first, place-near, place-beyond}
 use Rattle.demands.specs.InWords.{Undrawn, NextDraw, NeverAgain, Later, LastDraw, NotYet, Older}
 use Rattle.demands.specs.InWords.{FreeFirst, done-for, done-first, drawn-later}
 use Rattle.demands.proofs.SlotWords.{Tells}

@@ -16,6 +16,7 @@ pub mod Demand3
 pub mod Ended
 pub mod Sharper
 pub mod Nearest
+pub mod NeverLater
 pub mod SlotWords
 pub mod DrawWords
 pub mod TickWords

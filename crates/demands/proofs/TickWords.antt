@@ -14,7 +14,7 @@ use Rattle.rules.specs.declared.Loading.{Loading}
 use Rattle.rules.specs.Basics.{place, stands}
 use Rattle.rules.specs.Job.{Job, free}
 use Rattle.rules.specs.Display.{State, idle, awaited}
-use Rattle.rules.specs.Plans.{rank, furthest, ahead, behind, both-ways, missing, aggressive, on-demand, optSlot, opt, lru}
+use Rattle.rules.specs.Plans.{rank, furthest, ahead, behind, missing, aggressive, on-demand, optSlot, opt, lru}
 use Rattle.laws.proofs.Cases.{by-test}
 use Rattle.laws.proofs.Jobs.{Proper}
 use Rattle.laws.proofs.Search.{absent, absent-at, place-holds}

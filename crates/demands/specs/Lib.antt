@@ -4,4 +4,5 @@ pub mod Fair
 pub mod Table
 pub mod TwoRocks
 pub mod InWords
+pub mod OldRule
 pub mod TextWords

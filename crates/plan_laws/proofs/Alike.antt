@@ -2,17 +2,17 @@
 -- gives up could go out no later than what the other does, if one takes the latest so far in both.
 use Prim.Native.Nat.{ℕ, zero, suc, _+_, _<_, _≤_, max}
 use native.Mathlib.Omega.{arith}
-use mathlib.Core.Path.{_≡_, refl, sym, ap, _∙_}
+use mathlib.Core.Path.{_≡_, refl, ap, _∙_}
 use mathlib.Core.Bool.{true, false}
 use mathlib.Core.List.{List, [], _∷_, _++_, map, reverse}
-use lib.ListN.{length, getD, take, set, length-set}
+use lib.ListN.{length, take, set, length-set}
 use Rattle.rules.specs.Basics.{place, stands}
 use Rattle.rules.specs.Job.{free}
 use Rattle.laws.proofs.Cases.{by-test}
 use Rattle.laws.proofs.Search.{place-cons-here}
 use Rattle.plan_laws.proofs.Counting.{holders, holders-found, holders-unfound}
-use Rattle.plan_laws.proofs.Misses.{Miss, miss, Choosing, Below, missesBy, by-hit, by-miss, by-over}
-use Rattle.plan_laws.proofs.Ready.{Parted, parted-next, parted-start, not-ahead, not-behind, ready, top, readies, missDraw}
+use Rattle.plan_laws.proofs.Misses.{Miss, Choosing, Below, missesBy, by-hit, by-miss, by-over}
+use Rattle.plan_laws.proofs.Ready.{Parted, parted-next, parted-start, not-ahead, not-behind, top, readies, missDraw}
 use Rattle.plan_laws.proofs.Level.{Furthest, Level, level-miss, level-draw}
 
 top-none : (most j : ℕ) → top most j [] ≡ most

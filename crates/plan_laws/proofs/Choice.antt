@@ -1,9 +1,9 @@
 -- The slot choice. All that later proofs take from it are two laws: the chosen slot is one of the slots, and if what it holds is drawn
 -- soon, so is what every other slot holds.
-use Prim.Native.Nat.{ℕ, zero, suc, _+_, _<_, _≤_, max}
+use Prim.Native.Nat.{ℕ, suc, _+_, _<_, _≤_}
 use native.Mathlib.Omega.{arith}
 use mathlib.Core.Path.{_≡_, refl, ap, _∙_}
-use mathlib.Core.Bool.{true, false, cond}
+use mathlib.Core.Bool.{true, false}
 use mathlib.Core.List.{List, [], _∷_, _++_, reverse}
 use lib.ListN.{length, getD, take, length-append}
 use lib.Dec.{eqb, ltb}
@@ -29,7 +29,7 @@ chosen-below job row (x ∷ slots) h =
     rw (length-ranks job row 1 slots) at (greatest-stands (getD (ranksFrom job row 0 (x ∷ slots)) 0 0) (ranksFrom job row 1 slots))
 
 -- Where a load may go into every slot, no slot's content comes up further than that of the chosen slot.
-chosen-furthest : (job : Job) (row slots : List ℕ) → length slots ≤ job .slots → (i : ℕ) → i < length slots
+pub chosen-furthest : (job : Job) (row slots : List ℕ) → length slots ≤ job .slots → (i : ℕ) → i < length slots
     → rank row (getD slots i 0) ≤ rank row (getD slots (furthest job row slots) 0)
 chosen-furthest job row slots all i h =
     let ranks : List ℕ = ranksFrom job row 0 slots in
@@ -114,3 +114,10 @@ pub choice-useful : (job : Job) (d : ℕ) (rest slots : List ℕ) (j : ℕ) → 
     → j ≤ length rest → 0 < soon rest j (getD slots (choice job d rest slots) 0) → useful slots rest j ≡ length slots
 unfolding choice
 choice-useful job d rest slots j all none few h = chosen-useful job rest _ slots j all none few h
+
+-- What it holds comes up furthest both ways.
+pub choice-furthest : (job : Job) (d : ℕ) (rest slots : List ℕ) → length slots ≤ job .slots → (i : ℕ) → i < length slots
+    → rank (rest ++ reverse (take d (job .draws))) (getD slots i 0)
+    ≤ rank (rest ++ reverse (take d (job .draws))) (getD slots (choice job d rest slots) 0)
+unfolding choice
+choice-furthest job d rest slots all i h = chosen-furthest job (rest ++ reverse (take d (job .draws))) slots all i h

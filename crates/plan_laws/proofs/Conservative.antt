@@ -16,7 +16,7 @@ use Rattle.rules.specs.declared.Loading.{Loading}
 use Rattle.rules.specs.declared.Loading.the-variants.{Idle, Under}
 use Rattle.rules.specs.Basics.{place, stands}
 use Rattle.rules.specs.Job.{Job, free}
-use Rattle.rules.specs.Display.{State, Loaded, loaded, idle, awaited}
+use Rattle.rules.specs.Display.{State, Loaded, loaded, start, idle, awaited}
 use Rattle.rules.specs.Plans.{earliest, conservative, opt, runPlan, begunIn, ruleOf}
 use Rattle.laws.proofs.Cases.{by-test}
 use Rattle.laws.proofs.Rows.{map-snoc}
@@ -103,7 +103,7 @@ module _ (job : Job) (proper : Proper job) (pick : Choosing) (below : Below pick
       let some : 0 < length (s .slots) = omega (arith, proper .some-slot, g .row) in
       first pick below (s .next) (s .slots) (s .rest) (a .miss) q x (map missOf (a .later)) some (coming ∙ ap (map missOf) (a .head))
 
-  early-ready : (s : State) → 0 < length (s .rest) → SaneState job s → EarlyState s → Ready job (conservative loads .asks) s
+  pub early-ready : (s : State) → 0 < length (s .rest) → SaneState job s → EarlyState s → Ready job (conservative loads .asks) s
   early-ready s more g h =
       record {
         permitted = λ q x e.
@@ -120,7 +120,7 @@ module _ (job : Job) (proper : Proper job) (pick : Choosing) (below : Below pick
             absurd (asked-now (drop (s .loads) loads) s _ _ _ (sym coming ∙ now) quiet e));
       }
 
-  early-moves : SaneMoves job (conservative loads) EarlyState EarlyState EarlyState
+  pub early-moves : SaneMoves job (conservative loads) EarlyState EarlyState EarlyState
   early-moves =
       record {
         lands = λ s more g h. record { to-come = rw (settled-landed (s .loading) (s .slots)) (h .to-come); upto = h .upto; so-far = h .so-far };
@@ -153,12 +153,14 @@ module _ (job : Job) (proper : Proper job) (pick : Choosing) (below : Below pick
       let size : length loads ≡ length (allBy pick job) = sym (length-map loads missOf) ∙ ap length all in
       omega (arith, h .upto, by-most pick 0 (job .starting) (job .draws))
 
+  pub early-start : EarlyState (start job)
+  early-start = record { to-come = sym all; upto = omega arith; so-far = refl }
+
   early-done : Done job (conservative loads) EarlyState
-  early-done =
-      done job proper (conservative loads .asks) EarlyState early-moves (record { to-come = sym all; upto = omega arith; so-far = refl }) early-ready early-few
+  early-done = done job proper (conservative loads .asks) EarlyState early-moves early-start early-ready early-few
 
   -- At the last draw no miss is to come, so none of the loads is left.
-  early-all : (s : State) → s .rest ≡ [] → EarlyState s → s .loads ≡ length loads
+  pub early-all : (s : State) → s .rest ≡ [] → EarlyState s → s .loads ≡ length loads
   early-all s over h =
       let none : map missOf (drop (s .loads) loads) ≡ [] = sym (h .to-come) ∙ by-over pick _ _ (s .rest) over in
       let left : length (drop (s .loads) loads) ≡ 0 = sym (length-map (drop (s .loads) loads) missOf) ∙ ap length none in

@@ -3,17 +3,17 @@
 use Prim.Native.Nat.{ℕ, zero, suc, _+_, _-_, _<_, _≤_, max}
 use native.Mathlib.Omega.{arith}
 use mathlib.Core.Path.{_≡_, refl, sym, ap, _∙_}
-use mathlib.Core.Bool.{true, false, cond}
+use mathlib.Core.Bool.{false, cond}
 use mathlib.Core.List.{List, [], _∷_, _++_}
-use lib.ListN.{length, getD, set, length-append, length-set}
+use lib.ListN.{length, getD, set}
 use lib.Dec.{eqb, ltb, leb}
-use borrow.Author.Tests.{ltb-true, ltb-false, lt-ltb, le-ltb, leb-true, leb-false, le-leb, lt-leb, eqb-true, eqb-false, eq-eqb, ne-eqb}
+use borrow.Author.Tests.{ltb-true, ltb-false, lt-ltb, le-ltb, leb-true, leb-false, le-leb, eqb-true, eqb-false, eq-eqb, ne-eqb}
 use Rattle.rules.specs.Basics.{place, stands}
 use Rattle.rules.specs.Job.{free}
 use Rattle.rules.specs.Plans.{rank}
 use Rattle.laws.proofs.Cases.{by-test}
-use Rattle.laws.proofs.Search.{place-cons-here, place-cons-further, place-cons-most, place-holds, place-within, place-near, place-beyond}
-use Rattle.plan_laws.proofs.Counting.{total, total-set, same, holders, holders-found, holders-unfound}
+use Rattle.laws.proofs.Search.{place-cons-here, place-cons-further, place-cons-most, place-holds, place-near, place-beyond}
+use Rattle.plan_laws.proofs.Counting.{total, total-set, same, holders}
 use Rattle.plan_laws.proofs.Choice.{rank-symbol, rank-place, place-rank, drawn-symbol}
 use Rattle.plan_laws.proofs.Ready.{ready}
 
@@ -246,8 +246,7 @@ module _ (rest made : List ℕ) (free-ahead : stands free rest ≡ false) (free-
                 omega (arith, total-set (same u) X q x inX, total-set (same u) Y r x inY, level .drawn u near);
             upto = λ v bound.
                 let (upto, even) = level .upto v (omega arith) in
-                let soon : ready made outX ≤ v = soon-too v (omega arith) (omega arith) in
-                (
+                let soon : ready made outX ≤ v = soon-too v (omega arith) (omega arith) in (
                   omega arith,
                   omega (
                     arith,
@@ -309,8 +308,7 @@ module _ (rest made : List ℕ) (free-ahead : stands free rest ≡ false) (free-
                   level .drawn u near,
                 );
             upto = λ v bound.
-                let (upto, even) = level .upto v (omega arith) in
-                (
+                let (upto, even) = level .upto v (omega arith) in (
                   omega arith,
                   omega (
                     arith,

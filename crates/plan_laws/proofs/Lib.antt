@@ -17,6 +17,8 @@ pub mod OnDemand
 pub mod Aggressive
 pub mod OptLoads
 pub mod Conservative
+pub mod Pace
+pub mod NoLater
 pub mod Plans
 pub mod Exact
 pub mod Demand

@@ -15,7 +15,7 @@ use Rattle.laws.proofs.Rows.{map-snoc}
 use Rattle.laws.proofs.Jobs.{Proper}
 use Rattle.laws.proofs.Sane.{SaneMoves, settled, awaited-symbol, reached-sanely}
 use Rattle.plan_laws.proofs.Choice.{choice, choice-is, choice-below}
-use Rattle.plan_laws.proofs.Misses.{Miss, miss, Choosing, Below, missesBy, by-over, by-drawn, by-now, misses}
+use Rattle.plan_laws.proofs.Misses.{Miss, miss, Choosing, Below, missesBy, by-over, by-drawn, by-now}
 use Rattle.plan_laws.proofs.States.{settled-landed, settled-holds}
 use Rattle.plan_laws.proofs.Keeping.{Done}
 use Rattle.plan_laws.proofs.Rising.{Rising}

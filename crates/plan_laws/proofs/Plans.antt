@@ -47,19 +47,23 @@ pub planned-past : (asked : Call) (p room : ℕ) → firstOf (planTests asked p 
 unfolding planned
 planned-past asked p room e = ap (λ (v : Verdict). unless v (inTime (runPlan (jobOf asked) (ruleOf (jobOf asked) p)))) e
 
--- A job that is taken, a plan's number and room enough: past all tests, and the plan comes to its last state.
-pub planned-done : {P : State → Type 0} (asked : Call) (shape : Shape) (p room : ℕ) → readJob (asked .job) ≡ Taken shape → p ≤ last-plan
-    → head-size + event-size * length (drawsOf asked) ≤ room
-    → (d : Done (jobOf asked) (ruleOf (jobOf asked) p) P) → planned asked p room ≡ going (d .last)
+-- A job that is taken, a plan's number and room enough: past all tests,
+pub plan-clear : (asked : Call) (shape : Shape) (p room : ℕ) → readJob (asked .job) ≡ Taken shape → p ≤ last-plan
+    → head-size + event-size * length (drawsOf asked) ≤ room → firstOf (planTests asked p room) ≡ clear
 unfolding shortPlan
-planned-done asked shape p room taken known enough d =
-    planned-past asked p room
-    (gives _ _
+plan-clear asked shape p room taken known enough =
+    gives _ _
     (past-job (asked .job) (readJob (asked .job)) shape refl taken
     (step false (rw (le-ltb last-plan p known)) refl
     (step false (rw (le-ltb room (head-size + event-size * length (drawsOf asked)) enough)) refl
-    end))))
-    ∙ rw (d .ran, d .over)
+    end)))
+
+-- and the plan comes to its last state.
+pub planned-done : {P : State → Type 0} (asked : Call) (shape : Shape) (p room : ℕ) → readJob (asked .job) ≡ Taken shape → p ≤ last-plan
+    → head-size + event-size * length (drawsOf asked) ≤ room
+    → (d : Done (jobOf asked) (ruleOf (jobOf asked) p) P) → planned asked p room ≡ going (d .last)
+planned-done asked shape p room taken known enough d =
+    planned-past asked p room (plan-clear asked shape p room taken known enough) ∙ rw (d .ran, d .over)
 
 -- A list that was written can be read.
 pub written-read : (l : List Event) → length l ≤ most-events → badList (listBytes l) ≡ false

@@ -1,5 +1,5 @@
 -- `ask_on_demand` meets its contract: the one test of plans 2 and 3, with the slot found back along the draws made, or both ways.
-use Prim.Native.Nat.{ℕ, _<_, _≤_}
+use Prim.Native.Nat.{ℕ, _≤_}
 use mathlib.Core.Bool.{true, false}
 use mathlib.Core.List.{List}
 use mathlib.Core.Path.{_≡_, refl, sym, _∙_}
