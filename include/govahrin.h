@@ -90,9 +90,9 @@
 
 /* The version of the library and of this header. Until 1.0 the surface changes with the requests. */
 #define GOVAHRIN_VERSION_MAJOR 0
-#define GOVAHRIN_VERSION_MINOR 3
+#define GOVAHRIN_VERSION_MINOR 4
 #define GOVAHRIN_VERSION_PATCH 0
-#define GOVAHRIN_VERSION "0.3.0"
+#define GOVAHRIN_VERSION "0.4.0"
 
 #ifdef __cplusplus
 extern "C" {
@@ -173,7 +173,9 @@ enum {
     GOVAHRIN_AGGRESSIVE = 0,   /* loads the first missing symbol as soon as that costs no earlier draw its symbol */
     GOVAHRIN_CONSERVATIVE = 1, /* the loads of opt, each as early as can be: no accepted list has fewer loads, and none
                                   has less than half its elapsed */
-    GOVAHRIN_OPT = 2,          /* loads on demand, in place of the symbol whose next draw is furthest */
+    GOVAHRIN_OPT = 2,          /* loads on demand, in place of the symbol whose next draw is furthest; of several that are
+                                  never drawn again it is the one whose last draw so far is earliest, one not yet drawn
+                                  before all. (Aggressive takes the one in the lowest slot.) */
     GOVAHRIN_LRU = 3           /* loads on demand, in place of the symbol drawn longest ago */
 };
 

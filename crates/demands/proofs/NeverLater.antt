@@ -23,7 +23,7 @@ use Rattle.plan_laws.proofs.Misses.{Choosing, Below}
 use Rattle.plan_laws.proofs.OnDemand.{demand-done}
 use Rattle.plan_laws.proofs.OptLoads.{missOf, allBy, demand-loads, opt-loads}
 use Rattle.plan_laws.proofs.Conservative.{LoadsMade, early-made}
-use Rattle.plan_laws.proofs.Ready.{missDraw}
+use Rattle.plan_laws.proofs.CameFree.{missDraw}
 use Rattle.plan_laws.proofs.Alike.{Alike, alike-start}
 use Rattle.plan_laws.proofs.NoLater.{AsFar, conservative-sooner}
 use Rattle.plan_laws.proofs.Plans.{plan-clear, planned-done}

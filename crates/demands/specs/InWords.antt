@@ -73,9 +73,9 @@ pub record Lowest (job : Job) (slots : List ℕ) (Kind : ℕ → Type 0) (q : �
   pub holds : Kind (getD slots q 0)
   pub lowest : (r : ℕ) → Open job slots r → Kind (getD slots r 0) → q ≤ r
 
--- "A free slot is taken before any slot that holds a symbol, and of several free slots the lowest. Of several held symbols that are never
--- drawn again, the one in the lowest slot is taken." Else slot q is that of the furthest symbol. `Never` is what goes before every other
--- symbol, and `Further x y` says that x goes before y.
+-- "A free slot is taken before any slot that holds a symbol, and of several free slots the lowest." Else slot q is that of the symbol that goes
+-- before those in all other slots. `Never` is what goes before every other symbol, in the lowest slot of several, and `Further x y` says
+-- that x goes before y.
 pub data Chosen (job : Job) (Never : ℕ → Type 0) (Further : ℕ → ℕ → Type 0) (slots : List ℕ) (q : ℕ) : Type 0 where
   free-slot : Lowest job slots (λ x. x ≡ free) q → Chosen job Never Further slots q
   never-slot : NoSlot job slots (λ x. x ≡ free) → Lowest job slots Never q → Chosen job Never Further slots q
@@ -83,7 +83,8 @@ pub data Chosen (job : Job) (Never : ℕ → Type 0) (Further : ℕ → ℕ → 
       → ((r : ℕ) → Open job slots r → (r ≡ q → ⊥) → Further (getD slots q 0) (getD slots r 0))
       → Chosen job Never Further slots q
 
--- "A free slot, else the slot of the furthest symbol", where "a symbol that is never drawn again is further than all that are".
+-- "A free slot, else the slot of the furthest symbol", where "a symbol that is never drawn again is further than all that are"; of several
+-- such symbols "aggressive takes the one in the lowest slot".
 abbrev pub FurthestSlot : Job → State → ℕ → Type 0
 FurthestSlot job s q = Chosen job (NeverAgain (job .draws) (s .next)) (Later (job .draws) (s .next)) (s .slots) q
 
@@ -92,15 +93,15 @@ FurthestSlot job s q = Chosen job (NeverAgain (job .draws) (s .next)) (Later (jo
 abbrev pub OldestSlot : Job → State → ℕ → Type 0
 OldestSlot job s q = Chosen job (NotYet (job .draws) (s .next)) (Older (job .draws) (s .next)) (s .slots) q
 
--- "Opt goes by what came free first": of symbols x and y, x goes before y. Either x is never drawn again and y is; or neither is, and the
--- last draw of x is earlier; or both are, and the next draw of x is larger.
+-- "Opt goes by what came free first." Of symbols x and y, x goes before y where x is never drawn again and y is; where neither is drawn again
+-- and the last draw of x is earlier; and where both are drawn again and the next draw of x is larger.
 pub data FreeFirst (draws : List ℕ) (next x y : ℕ) : Type 0 where
   done-for : (i : ℕ) → NeverAgain draws next x → NextDraw draws next y i → FreeFirst draws next x y
   done-first : NeverAgain draws next x → NeverAgain draws next y → Older draws next x y → FreeFirst draws next x y
   drawn-later : Later draws next x y → FreeFirst draws next x y
 
--- "A free slot; else, of the symbols that are never drawn again, the one whose last draw so far is earliest, and one that is not yet drawn
--- before all, in the lowest slot of several; else the furthest."
+-- "A free slot; else, of the held symbols that are never drawn again, the one whose last draw so far is earliest, and one that is not yet
+-- drawn before all, in the lowest slot of several; else the furthest."
 abbrev pub FreeFirstSlot : Job → State → ℕ → Type 0
 FreeFirstSlot job s q =
     Chosen job (λ x. NeverAgain (job .draws) (s .next) x × NotYet (job .draws) (s .next) x) (FreeFirst (job .draws) (s .next)) (s .slots) q

@@ -12,7 +12,7 @@ use Rattle.laws.proofs.Cases.{by-test}
 use Rattle.laws.proofs.Search.{place-cons-here}
 use Rattle.plan_laws.proofs.Counting.{holders, holders-found, holders-unfound}
 use Rattle.plan_laws.proofs.Misses.{Miss, Choosing, Below, missesBy, by-hit, by-miss, by-over}
-use Rattle.plan_laws.proofs.Ready.{Parted, parted-next, parted-start, not-ahead, not-behind, top, readies, missDraw}
+use Rattle.plan_laws.proofs.CameFree.{Parted, parted-next, parted-start, not-ahead, not-behind, top, freeFrom, missDraw}
 use Rattle.plan_laws.proofs.Level.{Furthest, Level, level-miss, level-draw}
 
 top-none : (most j : ℕ) → top most j [] ≡ most
@@ -39,14 +39,14 @@ miss-too x X Y even missed =
 -- The same draws are missed, and the latest draw from which on what was given up could go out is no later.
 pub record Alike (draws X Y : List ℕ) (topX topY : ℕ) (missesX missesY : List Miss) : Type 0 where
   pub same-draws : map missDraw missesX ≡ map missDraw missesY
-  pub no-later : (j : ℕ) → top topX j (readies draws X missesX) ≤ top topY j (readies draws Y missesY)
+  pub no-later : (j : ℕ) → top topX j (freeFrom draws X missesX) ≤ top topY j (freeFrom draws Y missesY)
 
 module _ (draws : List ℕ) (drawable : stands free draws ≡ false) (k : ℕ) (pickX pickY : Choosing) (belowX : Below pickX) (belowY : Below pickY)
     (first : (d : ℕ) (rest slots : List ℕ) → length slots ≡ k → Furthest (rest ++ reverse (take d draws)) slots (pickX d rest slots))
     (other : (d : ℕ) (rest slots : List ℕ) → length slots ≡ k → Furthest rest slots (pickY d rest slots)) (some : 0 < k) where
   alike-over : (d : ℕ) (made X Y : List ℕ) (topX topY : ℕ) → Level [] made X Y topX topY
       → Alike draws X Y topX topY (missesBy pickX d X []) (missesBy pickY d Y [])
-  unfolding readies
+  unfolding freeFrom
   alike-over d made X Y topX topY level =
       rw (by-over pickX d X [] refl, by-over pickY d Y [] refl)
       (record {
@@ -56,7 +56,7 @@ module _ (draws : List ℕ) (drawable : stands free draws ≡ false) (k : ℕ) (
 
   alike : (rest : List ℕ) (d : ℕ) (made X Y : List ℕ) (topX topY : ℕ) → Parted draws d rest made → length X ≡ k → length Y ≡ k
       → Level rest made X Y topX topY → Alike draws X Y topX topY (missesBy pickX d X rest) (missesBy pickY d Y rest)
-  unfolding readies
+  unfolding freeFrom
   alike [] d made X Y topX topY p sizeX sizeY level = alike-over d made X Y topX topY level
   alike (x ∷ rest) d made X Y topX topY p sizeX sizeY level =
       let now : place x (x ∷ rest) < length (x ∷ rest) = omega (arith, place-cons-here x x rest refl) in

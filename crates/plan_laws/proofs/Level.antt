@@ -15,7 +15,7 @@ use Rattle.laws.proofs.Cases.{by-test}
 use Rattle.laws.proofs.Search.{place-cons-here, place-cons-further, place-cons-most, place-holds, place-near, place-beyond}
 use Rattle.plan_laws.proofs.Counting.{total, total-set, same, holders}
 use Rattle.plan_laws.proofs.Choice.{rank-symbol, rank-place, place-rank, drawn-symbol}
-use Rattle.plan_laws.proofs.Ready.{ready}
+use Rattle.plan_laws.proofs.CameFree.{cameFree}
 
 -- ---- Sums over the slots
 
@@ -53,24 +53,24 @@ total-none (x ∷ l) = omega (arith, total-none l)
 
 -- 1 for what is not drawn any more and may go out from draw number v on, else 0. The mark of a free slot is never drawn.
 unfoldable pub gone : List ℕ → List ℕ → ℕ → ℕ → ℕ
-gone rest made v x = cond (ltb (place x rest) (length rest)) 0 (cond (leb (ready made x) v) 1 0)
+gone rest made v x = cond (ltb (place x rest) (length rest)) 0 (cond (leb (cameFree made x) v) 1 0)
 
 module _ (rest made : List ℕ) (v x : ℕ) where
   gone-drawn : place x rest < length rest → gone rest made v x ≡ 0
   unfolding gone
   gone-drawn h = rw (lt-ltb (place x rest) (length rest) h)
 
-  gone-yes : length rest ≤ place x rest → ready made x ≤ v → gone rest made v x ≡ 1
+  gone-yes : length rest ≤ place x rest → cameFree made x ≤ v → gone rest made v x ≡ 1
   unfolding gone
-  gone-yes h late = rw (le-ltb (place x rest) (length rest) h, le-leb (ready made x) v late)
+  gone-yes h late = rw (le-ltb (place x rest) (length rest) h, le-leb (cameFree made x) v late)
 
-  gone-some : 0 < gone rest made v x → (length rest ≤ place x rest) × (ready made x ≤ v)
+  gone-some : 0 < gone rest made v x → (length rest ≤ place x rest) × (cameFree made x ≤ v)
   unfolding gone
   gone-some h =
       by-test (ltb (place x rest) (length rest))
       (λ t. absurd (omega (arith, rw t at h)))
       (λ t.
-      by-test (leb (ready made x) v)
+      by-test (leb (cameFree made x) v)
       (λ u. (ltb-false _ _ t, leb-true _ _ u))
       (λ u. absurd (omega (arith, rw (t, u) at h))))
 
@@ -79,11 +79,11 @@ module _ (rest made : List ℕ) (v x : ℕ) where
       by-test (ltb (place x rest) (length rest))
       (λ t. omega (arith, gone-drawn (ltb-true _ _ t)))
       (λ t.
-      by-test (leb (ready made x) v)
+      by-test (leb (cameFree made x) v)
       (λ u. omega (arith, gone-yes (ltb-false _ _ t) (leb-true _ _ u)))
       (λ u.
       by-test (ltb 0 (gone rest made v x))
-      (λ w. absurd (omega (arith, leb-false (ready made x) v u, gone-some (ltb-true 0 _ w) .1)))
+      (λ w. absurd (omega (arith, leb-false (cameFree made x) v u, gone-some (ltb-true 0 _ w) .1)))
       (λ w. omega (arith, ltb-false 0 (gone rest made v x) w))))
 
 -- How many slots hold such a content.
@@ -97,14 +97,14 @@ module _ (rest made : List ℕ) (x v : ℕ) where
   gone-other y other =
       let ahead : place y (x ∷ rest) ≡ suc (place y rest) = place-cons-further y x rest other in
       let behind : place y (x ∷ made) ≡ suc (place y made) = place-cons-further y x made other in
-      let same-ready : ready (x ∷ made) y ≡ ready made y = omega arith in
+      let same-free : cameFree (x ∷ made) y ≡ cameFree made y = omega arith in
       by-test (ltb (place y rest) (length rest))
       (λ t.
       let found : place y rest < length rest = ltb-true _ _ t in
       rw (t, lt-ltb (place y (x ∷ rest)) (length (x ∷ rest)) (omega arith)))
       (λ t.
       let past : length rest ≤ place y rest = ltb-false _ _ t in
-      rw (t, le-ltb (place y (x ∷ rest)) (length (x ∷ rest)) (omega arith), same-ready))
+      rw (t, le-ltb (place y (x ∷ rest)) (length (x ∷ rest)) (omega arith), same-free))
 
   own : ℕ → ℕ
   own y = cond (eqb x y) (gone rest (x ∷ made) v x) 0
@@ -173,8 +173,9 @@ module _ (rest made : List ℕ) (free-ahead : stands free rest ≡ false) (free-
       (λ t. ltb-false _ _ t)
 
   -- Of two such contents the one that ranks as far may go out as early.
-  ready-first : (u z : ℕ) → length rest ≤ place u rest → length rest ≤ place z rest → rank both u ≤ rank both z → ready made z ≤ ready made u
-  ready-first u z past past′ upto =
+  free-first : (u z : ℕ) → length rest ≤ place u rest → length rest ≤ place z rest → rank both u ≤ rank both z
+      → cameFree made z ≤ cameFree made u
+  free-first u z past past′ upto =
       by-test (eqb z free)
       (λ t.
       let all : length made ≤ place z made =
@@ -228,16 +229,16 @@ module _ (rest made : List ℕ) (free-ahead : stands free rest ≡ false) (free-
           gone-too (getD Y i 0) outY (gone-some rest made (length made) (getD Y i 0) counts .0) (other i inside)
 
       -- As far as what the second gives up may go out, the first has something that may.
-      soon-too : (v : ℕ) → topY ≤ v → ready made outY ≤ v → ready made outX ≤ v
+      soon-too : (v : ℕ) → topY ≤ v → cameFree made outY ≤ v → cameFree made outX ≤ v
       soon-too v bound late =
           let one : gone rest made v outY ≡ 1 = gone-yes rest made v outY goneY late in
           let least : gone rest made v outY ≤ pool rest made v Y = total-least (gone rest made v) Y r inY in
           let even : pool rest made v X ≡ pool rest made v Y = level .upto v bound .1 in
           let (i, inside, counts) = total-some (gone rest made v) X (omega arith) in
           let (past, upto) = gone-some rest made v (getD X i 0) counts in
-          omega (arith, ready-first (getD X i 0) outX past goneX (first i inside))
+          omega (arith, free-first (getD X i 0) outX past goneX (first i inside))
 
-      level-some : Level rest made (set X q x) (set Y r x) (max topX (ready made outX)) (max topY (ready made outY))
+      level-some : Level rest made (set X q x) (set Y r x) (max topX (cameFree made outX)) (max topY (cameFree made outY))
       level-some =
           record {
             drawn = λ u near.
@@ -246,7 +247,7 @@ module _ (rest made : List ℕ) (free-ahead : stands free rest ≡ false) (free-
                 omega (arith, total-set (same u) X q x inX, total-set (same u) Y r x inY, level .drawn u near);
             upto = λ v bound.
                 let (upto, even) = level .upto v (omega arith) in
-                let soon : ready made outX ≤ v = soon-too v (omega arith) (omega arith) in (
+                let soon : cameFree made outX ≤ v = soon-too v (omega arith) (omega arith) in (
                   omega arith,
                   omega (
                     arith,
@@ -295,9 +296,9 @@ module _ (rest made : List ℕ) (free-ahead : stands free rest ≡ false) (free-
           let even : place outX rest ≡ place outY rest = omega arith in
           sym (place-holds outX rest drawnX) ∙ ap (λ (n : ℕ). getD rest n 0) even ∙ place-holds outY rest drawnY
 
-      level-none : Level rest made (set X q x) (set Y r x) (max topX (ready made outX)) (max topY (ready made outY))
+      level-none : Level rest made (set X q x) (set Y r x) (max topX (cameFree made outX)) (max topY (cameFree made outY))
       level-none =
-          let alike : ready made outX ≡ ready made outY = ap (ready made) same-out in
+          let alike : cameFree made outX ≡ cameFree made outY = ap (cameFree made) same-out in
           record {
             drawn = λ u near.
                 omega (
@@ -322,7 +323,7 @@ module _ (rest made : List ℕ) (free-ahead : stands free rest ≡ false) (free-
           }
 
     -- So they are level once x is in a slot of each.
-    pub level-miss : Level rest made (set X q x) (set Y r x) (max topX (ready made outX)) (max topY (ready made outY))
+    pub level-miss : Level rest made (set X q x) (set Y r x) (max topX (cameFree made outX)) (max topY (cameFree made outY))
     level-miss =
         by-test (ltb 0 (pool rest made (length made) X))
         (λ t. level-some (ltb-true 0 _ t))

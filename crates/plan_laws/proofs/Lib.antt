@@ -2,7 +2,7 @@ pub mod Search
 pub mod Counting
 pub mod Choice
 pub mod Misses
-pub mod Ready
+pub mod CameFree
 pub mod Level
 pub mod Alike
 pub mod Against

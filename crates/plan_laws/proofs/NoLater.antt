@@ -24,7 +24,7 @@ use Rattle.laws.proofs.Sane.{Sane, SaneState, sane, remaining}
 use Rattle.plan_laws.proofs.Misses.{Choosing, Below}
 use Rattle.plan_laws.proofs.OptLoads.{missOf, allBy}
 use Rattle.plan_laws.proofs.Conservative.{early-all, early-made}
-use Rattle.plan_laws.proofs.Ready.{top}
+use Rattle.plan_laws.proofs.CameFree.{top}
 use Rattle.plan_laws.proofs.Pace.{Beginning, begins, passes, Drawing, draws, waits, Pace, missed, may-begin}
 use Rattle.plan_laws.proofs.Pace.{PacedState, pace-tick, paced, paced-run, missed-size, miss-order}
 
@@ -58,7 +58,7 @@ begun-more : (c u c′ u′ : ℕ) → Further c u c′ u′ → c′ ≤ c
 begun-more c u c′ u′ (more h) = omega arith
 begun-more c u c′ u′ (even e h) = omega arith
 
-module _ (ready ready′ : List ℕ) (count time : ℕ) (sooner : (j : ℕ) → top 0 j ready ≤ top 0 j ready′)
+module _ (bounds bounds′ : List ℕ) (count time : ℕ) (sooner : (j : ℕ) → top 0 j bounds ≤ top 0 j bounds′)
     (d c u t : ℕ) (l : List ℕ) (c₁ u₁ : ℕ) (l₁ : List ℕ)
     (d′ c′ u′ t′ : ℕ) (l′ : List ℕ) (c₁′ u₁′ : ℕ) (l₁′ : List ℕ) where
   more-now : c₁′ < c₁ → Further c₁ u₁ c₁′ u₁′
@@ -68,8 +68,8 @@ module _ (ready ready′ : List ℕ) (count time : ℕ) (sooner : (j : ℕ) → 
   even-now same upto = even same upto
 
   -- It stays so in a tick: where the other begins its next load and this one has not begun it, this one may begin it too.
-  further-kept : d′ ≤ d → u ≤ time → Beginning ready count time d c u t l c₁ u₁ l₁
-      → Beginning ready′ count time d′ c′ u′ t′ l′ c₁′ u₁′ l₁′
+  further-kept : d′ ≤ d → u ≤ time → Beginning bounds count time d c u t l c₁ u₁ l₁
+      → Beginning bounds′ count time d′ c′ u′ t′ l′ c₁′ u₁′ l₁′
       → Further c u c′ u′ → Further c₁ u₁ c₁′ u₁′
   further-kept before brief (begins a b e f g h) (begins a′ b′ e′ f′ g′ h′) (more m) = more-now (omega arith)
   further-kept before brief (begins a b e f g h) (begins a′ b′ e′ f′ g′ h′) (even m n) = even-now (omega arith) (omega arith)
@@ -77,9 +77,9 @@ module _ (ready ready′ : List ℕ) (count time : ℕ) (sooner : (j : ℕ) → 
   further-kept before brief (passes a f g h) (begins a′ b′ e′ f′ g′ h′) (more m) =
       by-test (ltb c₁′ c₁) (λ t. more (ltb-true c₁′ c₁ t)) (λ t. even-now (omega (arith, ltb-false c₁′ c₁ t)) (omega arith))
   further-kept before brief (passes a f g h) (begins a′ b′ e′ f′ g′ h′) (even m n) =
-      let late : d < getD ready c 0 = a (omega arith) (omega arith) in
-      let bound : top 0 (c + 1) ready′ ≤ d′ = rw (← m) e′ in
-      absurd (omega (arith, top-least 0 c ready, sooner (c + 1)))
+      let late : d < getD bounds c 0 = a (omega arith) (omega arith) in
+      let bound : top 0 (c + 1) bounds′ ≤ d′ = rw (← m) e′ in
+      absurd (omega (arith, top-least 0 c bounds, sooner (c + 1)))
   further-kept before brief (passes a f g h) (passes a′ f′ g′ h′) (more m) = more-now (omega arith)
   further-kept before brief (passes a f g h) (passes a′ f′ g′ h′) (even m n) = even-now (omega arith) (omega arith)
 
@@ -91,14 +91,14 @@ module _ (missed : List ℕ) (n : ℕ) (order : (i j : ℕ) → i ≤ j → getD
   drawn-kept before f (waits h e) (draws h′ e′) = omega (arith, order (c′ - min 1 u′) (c - min 1 u) (ended-more c u c′ u′ f))
   drawn-kept before f (waits h e) (waits h′ e′) = omega arith
 
-module _ (ready : List ℕ) (count time d c u t : ℕ) (l : List ℕ) (c₁ u₁ : ℕ) (l₁ : List ℕ) where
+module _ (bounds : List ℕ) (count time d c u t : ℕ) (l : List ℕ) (c₁ u₁ : ℕ) (l₁ : List ℕ) where
   -- A tick adds to the ticks at which loads began, or leaves them.
-  ticks-kept : Beginning ready count time d c u t l c₁ u₁ l₁ → (i : ℕ) → i < length l → getD l₁ i 0 ≡ getD l i 0
+  ticks-kept : Beginning bounds count time d c u t l c₁ u₁ l₁ → (i : ℕ) → i < length l → getD l₁ i 0 ≡ getD l i 0
   ticks-kept (begins a b e f g h) i inside = rw h (List·getD-append l (t ∷ []) 0 i inside)
   ticks-kept (passes a f g h) i inside = rw h
 
   -- One that it adds is its own.
-  ticks-new : Beginning ready count time d c u t l c₁ u₁ l₁ → (i : ℕ) → length l ≤ i → i < length l₁ → getD l₁ i 0 ≡ t
+  ticks-new : Beginning bounds count time d c u t l c₁ u₁ l₁ → (i : ℕ) → length l ≤ i → i < length l₁ → getD l₁ i 0 ≡ t
   ticks-new (begins a b e f g h) i past inside =
       let here : length l ≡ i = omega (arith, ap length h, length-append l (t ∷ [])) in rw h (getD-at l t [] 0 i here)
   ticks-new (passes a f g h) i past inside = absurd (omega (arith, ap length h))

@@ -29,7 +29,7 @@ use Rattle.plan_laws.proofs.Asking.{asked-none, other-false}
 use Rattle.plan_laws.proofs.OptLoads.{missOf, allBy}
 use Rattle.plan_laws.proofs.Keeping.{never-refused}
 use Rattle.plan_laws.proofs.Conservative.{Asked, asked, EarlyState, early-moves, early-start, early-ready}
-use Rattle.plan_laws.proofs.Ready.{ready, top, readies, missDraw, undrawn-ready, ready-undrawn, rises-least, rises-order, misses-rise}
+use Rattle.plan_laws.proofs.CameFree.{cameFree, top, freeFrom, missDraw, undrawn-free, free-undrawn, rises-least, rises-order, misses-rise}
 
 -- ---- Rows
 
@@ -88,7 +88,7 @@ module _ (job : Job) (proper : Proper job) (pick : Choosing) (below : Below pick
   missAt i = getD missed i (length (job .draws))
 
   abbrev pub may-begin : List ℕ
-  may-begin = readies (job .draws) (job .starting) (map missOf loads)
+  may-begin = freeFrom (job .draws) (job .starting) (map missOf loads)
 
   pub missed-size : length missed ≡ length loads
   missed-size = length-map (map missOf loads) missDraw ∙ length-map loads missOf
@@ -105,7 +105,7 @@ module _ (job : Job) (proper : Proper job) (pick : Choosing) (below : Below pick
   pub record Paced (next : ℕ) (rest slots : List ℕ) (loading : Loading) (count : ℕ) : Type 0 where
     pub coming : (left q x : ℕ) → loading ≡ Under left q x
         → (0 < count) × (next + place x rest ≡ missAt (count - 1)) × (place x rest < length rest)
-    pub left : readies (job .draws) (settled loading slots) (map missOf (drop count loads)) ≡ drop count may-begin
+    pub left : freeFrom (job .draws) (settled loading slots) (map missOf (drop count loads)) ≡ drop count may-begin
     pub bound : top 0 count may-begin ≤ next
 
   abbrev pub PacedState : State → Type 0
@@ -138,21 +138,21 @@ module _ (job : Job) (proper : Proper job) (pick : Choosing) (below : Below pick
     found : First pick (s .next) (s .slots) (s .rest) m q x (map missOf later)
     is-miss : missAt (s .loads) ≡ m
     to-begin : drop (s .loads) may-begin
-        ≡ ready (reverse (take m (job .draws))) (getD (s .slots) q 0) ∷ readies (job .draws) (set (s .slots) q x) (map missOf later)
+        ≡ cameFree (reverse (take m (job .draws))) (getD (s .slots) q 0) ∷ freeFrom (job .draws) (set (s .slots) q x) (map missOf later)
     before : s .next ≤ m
     within : m ≤ length (job .draws)
 
   next-load : (s : State) → Kept s → PacedState s → s .loading ≡ Idle → (t m q x : ℕ) (later : List Loaded)
       → drop (s .loads) loads ≡ loaded t m q x ∷ later → Next s m q x later
-  unfolding readies
+  unfolding freeFrom
   next-load s (g, h) p quiet t m q x later head =
       let still : settled (s .loading) (s .slots) ≡ s .slots = ap (λ (l : Loading). settled l (s .slots)) quiet in
       let come : missesBy pick (s .next) (s .slots) (s .rest) ≡ miss m q x ∷ map missOf later =
       rw still at (h .to-come) ∙ ap (map missOf) head in
       let f : First pick (s .next) (s .slots) (s .rest) m q x (map missOf later) =
       first pick below (s .next) (s .slots) (s .rest) m q x (map missOf later) (omega (arith, proper .some-slot, g .row)) come in
-      let row : readies (job .draws) (s .slots) (miss m q x ∷ map missOf later) ≡ drop (s .loads) may-begin =
-      ap (readies (job .draws) (s .slots)) (sym (ap (map missOf) head)) ∙ rw still at (p .left) in
+      let row : freeFrom (job .draws) (s .slots) (miss m q x ∷ map missOf later) ≡ drop (s .loads) may-begin =
+      ap (freeFrom (job .draws) (s .slots)) (sym (ap (map missOf) head)) ∙ rw still at (p .left) in
       let left : s .next + length (s .rest) ≡ length (job .draws) = remaining job (s .next) (s .rest) (s .slots) (s .loading) g in
       let draws-left : drop (s .loads) missed ≡ m ∷ map missDraw (map missOf later) =
       sym (ap (map missDraw) (map-drop missOf (s .loads) loads) ∙ map-drop missDraw (s .loads) (map missOf loads))
@@ -171,8 +171,8 @@ module _ (job : Job) (proper : Proper job) (pick : Choosing) (below : Below pick
       let n : Next s (a .miss) q x (a .later) = next-load s k p quiet (a .t) (a .miss) q x (a .later) (a .head) in
       let g : SaneState job s = k .0 in
       let one : s .loads + 1 - 1 ≡ s .loads = omega arith in
-      let soon : ready (reverse (take (a .miss) (job .draws))) (getD (s .slots) q 0) ≤ s .next =
-      undrawn-ready (job .draws) (s .next) (a .miss) (s .rest) (g .ahead) (n .before) (n .within) (getD (s .slots) q 0) (a .enough) in
+      let soon : cameFree (reverse (take (a .miss) (job .draws))) (getD (s .slots) q 0) ≤ s .next =
+      undrawn-free (job .draws) (s .next) (a .miss) (s .rest) (g .ahead) (n .before) (n .within) (getD (s .slots) q 0) (a .enough) in
       record {
         coming = λ left′ q′ x′ e.
             one-under
@@ -240,16 +240,16 @@ module _ (job : Job) (proper : Proper job) (pick : Choosing) (below : Below pick
           other-false (idle (s .loading)) (leb m (s .next + place z (s .rest)))
           (asked-none (idle (s .loading) && leb m (s .next + place z (s .rest))) q x none) (ap idle quiet) in
           let drawn : s .next + place z (s .rest) < m = leb-false m (s .next + place z (s .rest)) far in
-          let is : getD may-begin (s .loads) 0 ≡ ready (reverse (take m (job .draws))) z =
+          let is : getD may-begin (s .loads) 0 ≡ cameFree (reverse (take m (job .draws))) z =
           sym (drop-at (s .loads) may-begin 0) ∙ ap (λ (l : List ℕ). getD l 0 0) (n .to-begin) in
-          by-test (ltb (s .next) (ready (reverse (take m (job .draws))) z))
-          (λ t. omega (arith, ltb-true (s .next) (ready (reverse (take m (job .draws))) z) t))
+          by-test (ltb (s .next) (cameFree (reverse (take m (job .draws))) z))
+          (λ t. omega (arith, ltb-true (s .next) (cameFree (reverse (take m (job .draws))) z) t))
           (λ t.
           absurd
           (omega (
             arith,
-            ready-undrawn (job .draws) (s .next) m (s .rest) (k .0 .ahead) (n .before) (n .within) z
-                (ltb-false (s .next) (ready (reverse (take m (job .draws))) z) t),
+            free-undrawn (job .draws) (s .next) m (s .rest) (k .0 .ahead) (n .before) (n .within) z
+                (ltb-false (s .next) (cameFree (reverse (take m (job .draws))) z) t),
           )))
 
   -- The misses to come, by their draws.

@@ -39,8 +39,9 @@ ahead s = s .rest
 abbrev pub behind : Job → State → List ℕ
 behind job s = reverse (take (s .next) (job .draws))
 
--- For opt it is the draws to come and, beyond them, those made, the latest first. So what is never drawn again is further than all that is;
--- and of several such symbols one not yet drawn is furthest, then the one whose last draw is earliest. (Document 02, Four)
+-- For opt it is the draws to come and, beyond them, those made, the latest first. What is drawn again is met among the draws to come; what is
+-- not is met beyond them, at its last draw, or not at all where it is not yet drawn. So of several symbols that are never drawn again the
+-- furthest is one not yet drawn, else the one whose last draw is earliest. (Document 02, Four)
 abbrev pub both-ways : Job → State → List ℕ
 both-ways job s = ahead s ++ behind job s
 
@@ -69,6 +70,7 @@ abbrev pub on-demand : (State → ℕ) → Rule
 on-demand slot =
     asking (λ s. cond (idle (s .loading) && not (stands (awaited s) (s .slots))) (Load (slot s) (awaited s)) NoLoad)
 
+-- The slot that opt takes, and so conservative too.
 abbrev pub optSlot : Job → State → ℕ
 optSlot job s = furthest job (both-ways job s) (s .slots)
 

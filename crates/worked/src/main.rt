@@ -1,5 +1,6 @@
-// The worked cases of document 01, built in: checks and plans of its rows, every edge that it names, where the longest wait can be, a case
-// for each refusal number, the largest job, and lists as text (document 02, "Three"). Each is a line, and `stdout` has what every line must be.
+// The worked cases of document 01, built in: checks and plans of its rows, every edge that it names, where the longest wait can be, symbols
+// that are never drawn again (document 02, "Four"), a case for each refusal number, the largest job, and lists as text (document 02, "Three").
+// Each is a line, and `stdout` has what every line must be.
 mod check_case;
 mod checks;
 mod make;
@@ -17,6 +18,7 @@ fn main() {
     checks::refused_runs();
     checks::short_rooms();
     plans::rows();
+    plans::ties();
     plans::refused_jobs();
     plans::refused_calls();
     plans::largest();

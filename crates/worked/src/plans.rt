@@ -1,4 +1,4 @@
-// The cases of a plan, in groups: the rows, what is refused, by number, and the largest job.
+// The cases of a plan, in groups: the rows, symbols that are never drawn again, what is refused, by number, and the largest job.
 use crate::make::JOB_A;
 use crate::make::changed;
 use crate::make::put_job;
@@ -20,6 +20,27 @@ pub fn rows() {
         b"\x00\x00\x00\x0C\x01\x01\x00\x01\x00\x02\xFF\xFF\x00\x07\x00\x07",
     );
     plan_by_all(b"n 0", b"\x00\x00\x00\x08\x01\x01\x00\x04\x00\x00\x00\x01");
+}
+
+// Which symbol goes of several that are never drawn again: the one whose last draw is earliest, one not yet drawn before it, and a free slot
+// before both. One that is drawn again stays, though it was drawn longest ago.
+pub fn ties() {
+    plan_by_all(
+        b"came free first",
+        b"\x00\x00\x00\x10\x01\x02\x00\x02\x00\x03\x00\x01\x00\x02\x00\x02\x00\x01\x00\x03",
+    );
+    plan_by_all(
+        b"not yet drawn",
+        b"\x00\x00\x00\x12\x01\x03\x00\x01\x00\x03\x00\x01\x00\x02\x00\x09\x00\x02\x00\x01\x00\x03",
+    );
+    plan_by_all(
+        b"a free slot first",
+        b"\x00\x00\x00\x14\x01\x03\x00\x02\x00\x04\x00\x01\x00\x02\xFF\xFF\x00\x02\x00\x01\x00\x03\x00\x04",
+    );
+    plan_by_all(
+        b"drawn again",
+        b"\x00\x00\x00\x16\x01\x03\x00\x01\x00\x05\x00\x01\x00\x02\x00\x03\x00\x01\x00\x03\x00\x02\x00\x04\x00\x01",
+    );
 }
 
 // Job a with one number changed, by the first plan.

@@ -72,8 +72,8 @@ module _ (draws : List ℕ) where
 -- ---- From which draw on
 
 -- The draw number from which on x may go out, with these draws made: one more than that of its last draw, or 0 where it was not drawn.
-abbrev pub ready : List ℕ → ℕ → ℕ
-ready made x = length made - place x made
+abbrev pub cameFree : List ℕ → ℕ → ℕ
+cameFree made x = length made - place x made
 
 -- The greatest of a number and the first j of a row.
 unfoldable pub top : ℕ → ℕ → List ℕ → ℕ
@@ -82,9 +82,9 @@ top most (suc j) [] = most
 top most (suc j) (r ∷ l) = top (max most r) j l
 
 -- For each of some misses, from these contents of the slots on: from which draw on what goes out for it could go out.
-unfoldable pub readies : List ℕ → List ℕ → List Miss → List ℕ
-readies draws slots [] = []
-readies draws slots (miss m q x ∷ later) = ready (reverse (take m draws)) (getD slots q 0) ∷ readies draws (set slots q x) later
+unfoldable pub freeFrom : List ℕ → List ℕ → List Miss → List ℕ
+freeFrom draws slots [] = []
+freeFrom draws slots (miss m q x ∷ later) = cameFree (reverse (take m draws)) (getD slots q 0) ∷ freeFrom draws (set slots q x) later
 
 -- The draw that a miss is for.
 abbrev pub missDraw : Miss → ℕ
@@ -105,8 +105,8 @@ module _ (draws : List ℕ) (d m : ℕ) (rest : List ℕ) (ahead : rest ≡ drop
   size : length to-miss ≡ m
   size = made-size draws m (drop m draws) to-miss at-miss
 
-  pub undrawn-ready : m ≤ d + place z rest → ready to-miss z ≤ d
-  undrawn-ready far =
+  pub undrawn-free : m ≤ d + place z rest → cameFree to-miss z ≤ d
+  undrawn-free far =
       by-test (ltb (place z to-miss + d) m)
       (λ t.
       let near : place z to-miss + d < m = ltb-true _ _ t in
@@ -119,8 +119,8 @@ module _ (draws : List ℕ) (d m : ℕ) (rest : List ℕ) (ahead : rest ≡ drop
       absurd (omega (arith, place-first z rest (e - d) (omega arith) there)))
       (λ t. omega (arith, size, ltb-false (place z to-miss + d) m t))
 
-  pub ready-undrawn : ready to-miss z ≤ d → m ≤ d + place z rest
-  ready-undrawn soon =
+  pub free-undrawn : cameFree to-miss z ≤ d → m ≤ d + place z rest
+  free-undrawn soon =
       by-test (ltb (d + place z rest) m)
       (λ t.
       let near : d + place z rest < m = ltb-true _ _ t in
