@@ -4,15 +4,15 @@ use native.Mathlib.Omega.{arith}
 use native.Mathlib.Numerals.{add-one}
 use mathlib.Core.Path.{_≡_, refl, sym, ap, _∙_}
 use mathlib.Core.List.{List, [], _∷_, _++_, map, map-append}
-use lib.ListN.{length, getD, take, drop, set, replicate, length-map}
-use lib.Seq.{length-take-le, take-suc, take-length, take-at, getD-take}
+use lib.ListN.{length, getD, take, drop, set, replicate, length-map, length-drop}
+use lib.Seq.{length-take-le, take-suc, take-length, take-at, getD-take, getD-drop}
 use lib.Dec.{eqb, ltb}
 use borrow.Author.Tests.{lt-ltb, eq-eqb, ne-eqb, ltb-true, ltb-false}
 use Rattle.rules.specs.Basics.{place}
 use Rattle.rules.specs.Job.{Job, free, most-slots}
 use Rattle.rules.specs.Plans.{rank, ranksFrom, greatest}
 use Rattle.laws.proofs.Cases.{by-test}
-use Rattle.laws.proofs.Search.{place-within, place-near, place-beyond}
+use Rattle.laws.proofs.Search.{place-first, place-within, place-near, place-beyond}
 use Rattle.laws.proofs.Places.{place-here, place-past}
 use Rattle.laws.proofs.Ranks.{Leads, leads-more, leads-same, search-leads, leads-search, length-ranks, rank-at}
 use Rattle.choice.specs.Ranks.{Ranks, Greatest, Chosen}
@@ -152,6 +152,17 @@ leads-chosen slots row q most upto within all l =
       within = within;
     }
 
+-- A rank that is not found in a part of the ranks is that of no slot there.
+pub not-there : (ranks : List ℕ) (from count never r : ℕ) → r ≡ place never (take (count - from) (drop from ranks)) → count - from ≤ r
+    → count ≤ length ranks → (i : ℕ) → from ≤ i → i < count → getD ranks i 0 ≡ never → ⊥
+not-there ranks from count never r found none fits i above below e =
+    let back : from + (i - from) ≡ i = omega arith in
+    let size : length (take (count - from) (drop from ranks)) ≡ count - from =
+    length-take-le (count - from) (drop from ranks) (omega (arith, length-drop from ranks)) in
+    let there : getD (take (count - from) (drop from ranks)) (i - from) 0 ≡ never =
+    getD-take (count - from) (drop from ranks) (i - from) 0 (omega arith) ∙ getD-drop from ranks (i - from) 0 ∙ rw back e in
+    omega (arith, place-first never (take (count - from) (drop from ranks)) (i - from) (omega arith) there)
+
 -- ---- Both ways
 
 module _ (rest beyond : List ℕ) where
@@ -219,18 +230,39 @@ module _ (rest beyond slots : List ℕ) where
   beyond-at : (q : ℕ) → Never q → rank (rest ++ beyond) (getD slots q 0) ≡ length rest + place (getD slots q 0) beyond
   beyond-at q never = both-beyond rest beyond (getD slots q 0) never
 
-  pub freed-first : (q : ℕ) → q < length slots → Never q
-      → Leads (λ i. rank rest (getD slots i 0)) q (rank rest (getD slots q 0)) (length slots) → Freed q (q + 1)
-  freed-first q within never l =
-      let before : (i : ℕ) → i < q → rank (rest ++ beyond) (getD slots i 0) < rank (rest ++ beyond) (getD slots q 0) =
-      λ i h. omega (arith, beyond-at q never, l .above i h, both-near rest beyond (getD slots i 0) (omega (arith, l .above i h))) in
-      record {
-        above = before;
-        below-none = λ i h.
-            by-test (ltb i q) (λ t. omega (arith, before i (ltb-true i q t)))
-            (λ t. let here : i ≡ q = omega (arith, ltb-false i q t) in rw here (omega arith));
-        own = omega arith;
-      }
+  module _ (q : ℕ) (within : q < length slots) (never : Never q)
+      (l : Leads (λ i. rank rest (getD slots i 0)) q (rank rest (getD slots q 0)) (length slots)) where
+    -- Every slot whose symbol is drawn again is behind it.
+    behind-it : (i : ℕ) → rank rest (getD slots i 0) < length rest
+        → rank (rest ++ beyond) (getD slots i 0) < rank (rest ++ beyond) (getD slots q 0)
+    behind-it i near = omega (arith, beyond-at q never, both-near rest beyond (getD slots i 0) near)
+
+    before-it : (i : ℕ) → i < q → rank (rest ++ beyond) (getD slots i 0) < rank (rest ++ beyond) (getD slots q 0)
+    before-it i h = behind-it i (omega (arith, l .above i h))
+
+    pub freed-first : Freed q (q + 1)
+    freed-first =
+        record {
+          above = before-it;
+          below-none = λ i h.
+              by-test (ltb i q) (λ t. omega (arith, before-it i (ltb-true i q t)))
+              (λ t. let here : i ≡ q = omega (arith, ltb-false i q t) in rw here (omega arith));
+          own = omega arith;
+        }
+
+    -- Where no other slot has such a symbol, it leads among all.
+    pub freed-alone : ((i : ℕ) → q < i → i < length slots → Never i → ⊥) → Freed q (length slots)
+    freed-alone alone =
+        record {
+          above = before-it;
+          below-none = λ i h.
+              by-test (ltb q i)
+              (λ t.
+              let other : Never i → ⊥ = alone i (ltb-true q i t) h in
+              omega (arith, behind-it i (omega (arith, l .below-none i h))))
+              (λ t. freed-first .below-none i (omega (arith, ltb-false q i t)));
+          own = omega arith;
+        }
 
   module _ (best slot : ℕ) (never : Never best) (so-far : Freed best slot) where
     pub freed-more : Never slot → place (getD slots best 0) beyond < place (getD slots slot 0) beyond → Freed slot (slot + 1)

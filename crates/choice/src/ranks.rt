@@ -1,7 +1,7 @@
 // The slot that a plan chooses, in two steps: the rank of each slot along a row of draws, and the first slot of the greatest rank. For opt a
 // third step looks back, where several symbols are never drawn again.
 use crate::search::last_draw;
-use crate::search::older;
+use display::slot_of;
 use rules::FREE;
 use rules::MOST_SLOTS;
 ghost use mathlib.Core.Path.{_≡_};
@@ -96,8 +96,8 @@ pub fn oldest(slots: &[u16], made: &[u16]) -> u8
     first_greatest(&ages[..count])
 }
 
-// The slot whose content comes up furthest along the draws that remain and then back along those made. Only where the furthest symbol is
-// never drawn again can another come up as far: then it is looked for, and the one that came free first is taken.
+// The slot whose content comes up furthest along the draws that remain and then back along those made. Only of several symbols that are never
+// drawn again must be told which came free first, so only for those is looked back.
 pub fn free_first(slots: &[u16], rest: &[u16], made: &[u16]) -> u8
     requires { ⌜ WithinLimits (now slots) (now rest) ⌝ }
     ensures { λ r. ⌜ Chosen (now (slots .entry)) (now (rest .entry) ++ reverse (now (made .entry))) r ⌝ }
@@ -109,11 +109,18 @@ pub fn free_first(slots: &[u16], rest: &[u16], made: &[u16]) -> u8
     if ranks[first as usize] != never {
         return first;
     }
+    let from = first as usize + 1;
+    if slot_of(&ranks[from..count], never) == count - from {
+        return first;
+    }
     let mut best = first;
+    let mut most = last_draw(made, slots[first as usize]);
     let mut slot = first + 1;
     while (slot as usize) < count {
         if ranks[slot as usize] == never {
-            if older(made, slots[slot as usize], slots[best as usize]) {
+            let ago = last_draw(made, slots[slot as usize]);
+            if most < ago {
+                most = ago;
                 best = slot;
             }
         }

@@ -1,10 +1,6 @@
-// The searches of the plans along a row of draws: a symbol's next draw, its last draw, which of two last draws is earlier, and the first draw
-// that no slot serves.
+// The searches of the plans along a row of draws: a symbol's next draw, its last draw, and the first draw that no slot serves.
 use display::slot_of;
-ghost use mathlib.Core.Path.{_≡_};
 ghost use mathlib.Core.List.{reverse};
-ghost use lib.Dec.{ltb};
-ghost use Rattle.rules.specs.Basics.{place};
 ghost use Rattle.display.specs.Search.{Found};
 ghost use Rattle.choice.specs.Rows.{Missed};
 
@@ -34,24 +30,6 @@ pub fn last_draw(made: &[u16], symbol: u16) -> usize
         ago += 1;
     }
     ago
-}
-
-// Whether a symbol was last drawn longer ago than another, or is not yet drawn where the other is. The look back ends where either is met.
-pub fn older(made: &[u16], symbol: u16, other: u16) -> bool
-    ensures { λ r. ⌜ r ≡ ltb (place other (reverse (now (made .entry)))) (place symbol (reverse (now (made .entry)))) ⌝ }
-{
-    let mut ago: usize = 0;
-    while ago < made.len() {
-        let drawn = made[made.len() - 1 - ago];
-        if drawn == symbol {
-            return false;
-        }
-        if drawn == other {
-            return true;
-        }
-        ago += 1;
-    }
-    false
 }
 
 // The first of the draws that remain whose symbol is in no slot, or the number of them.
