@@ -1,6 +1,6 @@
 -- Two plans on demand that both give up what is furthest miss the same draws. Where one of them gives up first what came free first, what it
 -- gives up could go out no later than what the other does, if one takes the latest so far in both.
-use Prim.Native.Nat.{ℕ, zero, suc, _+_, _<_, _≤_, max}
+use Prim.Native.Nat.{ℕ, _+_, _<_, _≤_}
 use native.Mathlib.Omega.{arith}
 use mathlib.Core.Path.{_≡_, refl, ap, _∙_}
 use mathlib.Core.Bool.{true, false}
@@ -12,20 +12,9 @@ use Rattle.laws.proofs.Cases.{by-test}
 use Rattle.laws.proofs.Search.{place-cons-here}
 use Rattle.plan_laws.proofs.Counting.{holders, holders-found, holders-unfound}
 use Rattle.plan_laws.proofs.Misses.{Miss, Choosing, Below, missesBy, by-hit, by-miss, by-over}
-use Rattle.plan_laws.proofs.CameFree.{Parted, parted-next, parted-start, not-ahead, not-behind, top, freeFrom, missDraw}
+use Rattle.plan_laws.proofs.Top.{top, top-none, top-both}
+use Rattle.plan_laws.proofs.CameFree.{Parted, parted-next, parted-start, not-ahead, not-behind, freeFrom, missDraw}
 use Rattle.plan_laws.proofs.Level.{Furthest, Level, level-miss, level-draw}
-
-top-none : (most j : ℕ) → top most j [] ≡ most
-unfolding top
-top-none most zero = refl
-top-none most (suc j) = refl
-
--- One number more in two rows.
-top-both : (most most′ a b : ℕ) (l m : List ℕ) → most ≤ most′ → ((j : ℕ) → top (max most a) j l ≤ top (max most′ b) j m)
-    → (j : ℕ) → top most j (a ∷ l) ≤ top most′ j (b ∷ m)
-unfolding top
-top-both most most′ a b l m upto later zero = upto
-top-both most most′ a b l m upto later (suc j) = later j
 
 -- A draw that slots of one row hold equally often as those of another is a hit in both or a miss in both.
 hit-too : (x : ℕ) (X Y : List ℕ) → holders x X ≡ holders x Y → stands x X ≡ true → stands x Y ≡ true

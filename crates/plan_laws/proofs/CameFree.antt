@@ -1,5 +1,5 @@
 -- From which draw on a symbol may go out: the draws of a job parted at a draw number, and the last draw of a symbol before it.
-use Prim.Native.Nat.{ℕ, zero, suc, _+_, _-_, _<_, _≤_, max}
+use Prim.Native.Nat.{ℕ, zero, suc, _+_, _-_, _<_, _≤_}
 use native.Mathlib.Omega.{arith}
 use native.Mathlib.Numerals.{add-one}
 use mathlib.Core.Path.{_≡_, refl, sym, ap, _∙_}
@@ -74,12 +74,6 @@ module _ (draws : List ℕ) where
 -- The draw number from which on x may go out, with these draws made: one more than that of its last draw, or 0 where it was not drawn.
 abbrev pub cameFree : List ℕ → ℕ → ℕ
 cameFree made x = length made - place x made
-
--- The greatest of a number and the first j of a row.
-unfoldable pub top : ℕ → ℕ → List ℕ → ℕ
-top most zero l = most
-top most (suc j) [] = most
-top most (suc j) (r ∷ l) = top (max most r) j l
 
 -- For each of some misses, from these contents of the slots on: from which draw on what goes out for it could go out.
 unfoldable pub freeFrom : List ℕ → List ℕ → List Miss → List ℕ

@@ -2,6 +2,7 @@ pub mod Search
 pub mod Counting
 pub mod Choice
 pub mod Misses
+pub mod Top
 pub mod CameFree
 pub mod Level
 pub mod Alike

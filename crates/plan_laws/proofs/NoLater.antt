@@ -1,6 +1,6 @@
 -- Two conservative runs side by side, over the loads of two plans on demand that miss the same draws. Where what goes out in the first could
 -- go out no later, taken over all so far, each of its loads begins no later and it is done no later.
-use Prim.Native.Nat.{ℕ, zero, suc, _+_, _-_, _<_, _≤_, min, max}
+use Prim.Native.Nat.{ℕ, zero, suc, _+_, _-_, _<_, _≤_, min}
 use native.Mathlib.Omega.{arith}
 use mathlib.Core.Path.{_≡_, refl, sym, ap, _∙_}
 use mathlib.Core.List.{List, [], _∷_, map}
@@ -24,25 +24,11 @@ use Rattle.laws.proofs.Sane.{Sane, SaneState, sane, remaining}
 use Rattle.plan_laws.proofs.Misses.{Choosing, Below}
 use Rattle.plan_laws.proofs.OptLoads.{missOf, allBy}
 use Rattle.plan_laws.proofs.Conservative.{early-all, early-made}
-use Rattle.plan_laws.proofs.CameFree.{top}
+use Rattle.plan_laws.proofs.Top.{top, top-least}
 use Rattle.plan_laws.proofs.Pace.{Beginning, begins, passes, Drawing, draws, waits, Pace, missed, may-begin}
 use Rattle.plan_laws.proofs.Pace.{PacedState, pace-tick, paced, paced-run, missed-size, miss-order}
 
 -- ---- In numbers
-
--- The greatest of some numbers is at least the one that they begin with, and each of them.
-top-most : (most j : ℕ) (l : List ℕ) → most ≤ top most j l
-unfolding top
-top-most most zero l = omega arith
-top-most most (suc j) [] = omega arith
-top-most most (suc j) (r ∷ l) = omega (arith, top-most (max most r) j l)
-
-top-least : (most j : ℕ) (l : List ℕ) → getD l j 0 ≤ top most (j + 1) l
-unfolding top
-top-least most zero [] = omega arith
-top-least most zero (r ∷ l) = omega arith
-top-least most (suc j) [] = omega arith
-top-least most (suc j) (r ∷ l) = let z : suc j + 1 ≡ suc (j + 1) = omega arith in rw z (top-least (max most r) j l)
 
 -- Of two runs one is as far with its loads: it has begun more of them, or as many and the last of them ends no later.
 pub data Further (c u c′ u′ : ℕ) : Type 0 where

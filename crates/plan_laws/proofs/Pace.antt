@@ -1,6 +1,6 @@
 -- The pace of conservative in numbers: in each tick, whether a load begins and whether a draw is made, told from the draws that miss and the
 -- draws from which on what goes out for them may go out.
-use Prim.Native.Nat.{ℕ, zero, suc, _+_, _-_, _<_, _≤_, min, max}
+use Prim.Native.Nat.{ℕ, zero, suc, _+_, _-_, _<_, _≤_, min}
 use native.Mathlib.Omega.{arith}
 use mathlib.Core.Path.{_≡_, refl, sym, ap, _∙_}
 use mathlib.Core.Bool.{true, false, _&&_}
@@ -29,7 +29,8 @@ use Rattle.plan_laws.proofs.Asking.{asked-none, other-false}
 use Rattle.plan_laws.proofs.OptLoads.{missOf, allBy}
 use Rattle.plan_laws.proofs.Keeping.{never-refused}
 use Rattle.plan_laws.proofs.Conservative.{Asked, asked, EarlyState, early-moves, early-start, early-ready}
-use Rattle.plan_laws.proofs.CameFree.{cameFree, top, freeFrom, missDraw, undrawn-free, free-undrawn, rises-least, rises-order, misses-rise}
+use Rattle.plan_laws.proofs.Top.{top, top-more}
+use Rattle.plan_laws.proofs.CameFree.{cameFree, freeFrom, missDraw, undrawn-free, free-undrawn, rises-least, rises-order, misses-rise}
 
 -- ---- Rows
 
@@ -41,14 +42,6 @@ map-drop f (suc n) (x ∷ l) = map-drop f n l
 -- What comes after the first n of a row, by its places.
 drop-at : (n : ℕ) (l : List ℕ) (e : ℕ) → getD (drop n l) 0 e ≡ getD l n e
 drop-at n l e = let z : n + 0 ≡ n = omega arith in getD-drop n l 0 e ∙ rw z
-
--- The greatest of one number more.
-top-more : (most j r : ℕ) (l m : List ℕ) → drop j l ≡ r ∷ m → top most (j + 1) l ≡ max (top most j l) r
-unfolding top
-top-more most zero r [] m e = let z : _≡_ {A = ℕ} 0 1 = cc in absurd (omega arith)
-top-more most zero r (y ∷ l) m e = let is : y ≡ r = cc in ap (max most) is
-top-more most (suc j) r [] m e = let z : _≡_ {A = ℕ} 0 1 = cc in absurd (omega arith)
-top-more most (suc j) r (y ∷ l) m e = let z : suc j + 1 ≡ suc (j + 1) = omega arith in rw z (top-more (max most y) j r l m e)
 
 -- A symbol that is not the next draw comes up one place nearer after it.
 nearer : (x : ℕ) (rest : List ℕ) → 0 < length rest → (x ≡ getD rest 0 0 → ⊥) → place x rest ≡ suc (place x (drop 1 rest))
