@@ -96,8 +96,8 @@ pub fn oldest(slots: &[u16], made: &[u16]) -> u8
     first_greatest(&ages[..count])
 }
 
-// The slot whose content comes up furthest along the draws that remain and then back along those made. Only of several symbols that are never
-// drawn again must be told which came free first, so only for those is looked back.
+// The slot whose content comes up furthest along the draws that remain and then back along those made. The look back decides only between
+// symbols that are never drawn again, so it is left out where there are not two of them, and made for those alone.
 pub fn free_first(slots: &[u16], rest: &[u16], made: &[u16]) -> u8
     requires { ⌜ WithinLimits (now slots) (now rest) ⌝ }
     ensures { λ r. ⌜ Chosen (now (slots .entry)) (now (rest .entry) ++ reverse (now (made .entry))) r ⌝ }
