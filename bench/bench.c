@@ -1,6 +1,7 @@
 /* Times the library and the plain C program on the same inputs in one process, turn about, and stops if they ever answer
    differently. Writes a line a repeat: sheet, call, n, k, F, then the nanoseconds of the library and of the plain program.
-   For a text n is the number of events, and k and F are 0. */
+   A sheet that is redrawn has the number of rounds in its name, as chart-4. For a text n is the number of events, and k and
+   F are 0. */
 #include "shared.h"
 #include <stdio.h>
 #include <stdlib.h>
@@ -12,7 +13,8 @@ static const char *const names[] = {"aggressive", "conservative", "opt", "lru", 
 /* What the check is given where no other list is made: the list of conservative. */
 static void put_conservative(void)
 {
-    input.list_len = 7 + 7 * plain_plan(input.job, input.job_len, GOVAHRIN_CONSERVATIVE, input.list, ROOM).loads;
+    govahrin_answer planned = plain_plan(input.job, input.job_len, GOVAHRIN_CONSERVATIVE, input.rounds, input.list, ROOM);
+    input.list_len = 7 + 7 * planned.loads;
 }
 
 static uint32_t dice(uint32_t sides)
@@ -85,6 +87,7 @@ static void make_text(unsigned events)
     uint32_t tick = 0;
     input.n = events;
     input.k = input.f = 0;
+    input.rounds = 1;
     put_list(events);
     for (i = 0; i < events; i++) {
         put_event(i, tick, dice(256), dice(65536));
@@ -99,18 +102,26 @@ static void make_wide(void)
     unsigned i;
     input.n = 4096;
     input.k = input.f = 0;
+    input.rounds = 1;
     put_list(4096);
     for (i = 0; i < 4096; i++) put_event(i, GOVAHRIN_LAST_TICK - 4095 + i, 255, 65535 - i % 1000);
     put_text();
 }
 
+static void print_repeat(const char *sheet, int what, double mine, double theirs)
+{
+    fputs(sheet, stdout);
+    if (input.rounds > 1) printf("-%u", input.rounds);
+    printf(" %s %u %u %u %.0f %.0f\n", names[what], input.n, input.k, input.f, mine, theirs);
+}
+
 static void row(const char *sheet, int what)
 {
     double mine = 0, theirs, one;
-    unsigned i, calls, n = input.n, k = input.k, f = input.f;
+    unsigned i, calls;
     if (!agree(what) || ours.answer.number || ours.written.number) {
-        fprintf(stderr, "bench: the library and the plain program answer differently: %s, %s, n %u, k %u, F %u\n", sheet,
-                names[what], n, k, f);
+        fprintf(stderr, "bench: the library and the plain program answer differently: %s, %s, n %u, k %u, F %u, rounds %u\n",
+                sheet, names[what], input.n, input.k, input.f, input.rounds);
         exit(1);
     }
     one = timed(0, what, 1);
@@ -119,7 +130,7 @@ static void row(const char *sheet, int what)
         if (i % 2) mine = timed(1, what, calls);
         theirs = timed(0, what, calls);
         if (i % 2 == 0) mine = timed(1, what, calls);
-        printf("%s %s %u %u %u %.0f %.0f\n", sheet, names[what], n, k, f, mine, theirs);
+        print_repeat(sheet, what, mine, theirs);
     }
     fflush(stdout);
 }
@@ -140,6 +151,33 @@ static void worst(unsigned n, unsigned k, unsigned f)
     row("worst", AGGRESSIVE);
     make_useless(n, k, f);
     row("worst", CHECK);
+}
+
+/* The sheet that was made, redrawn so often; the check is given the list that conservative plans for all rounds. */
+static void redraw(const char *sheet, unsigned rounds)
+{
+    int what;
+    input.rounds = rounds;
+    put_conservative();
+    for (what = 0; what <= CHECK; what++) row(sheet, what);
+}
+
+/* Made last, so that the sheets before them, which go by the same dice, do not depend on them. */
+static void sheets_in_rounds(void)
+{
+    static const unsigned n[] = {64, 256};
+    unsigned i;
+    for (i = 0; i < 2; i++) {
+        make_chart(n[i], 16, 30);
+        redraw("chart", 4);
+        redraw("chart", 16);
+    }
+    make_chart(64, 4, 1);
+    redraw("chart", 4);
+    make_chart(256, 16, 1);
+    redraw("chart", 16);
+    make_different(256, 64, 1);
+    redraw("different", 16);
 }
 
 static void texts(void)
@@ -174,5 +212,6 @@ int main(void)
     for (i = 0; i < 4; i++) worst(1024, k[i], 1);
     worst(1024, 64, 1000);
     texts();
+    sheets_in_rounds();
     return 0;
 }

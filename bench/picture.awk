@@ -3,14 +3,24 @@
 
 /^#/ { next }
 
+# All sheets that are redrawn are of one kind; their rounds stand after n, k and F.
 {
+    kind = $1
     sheet = $3 " " $4 " " $5
-    if (!(($1, sheet) in seen)) { seen[$1, sheet] = 1; order[$1, ++sheets[$1]] = sheet }
-    ratio[$1, $2, sheet] = $6; least[$1, $2, sheet] = $7; most[$1, $2, sheet] = $8
-    ours[$1, $2, sheet] = $9; plain[$1, $2, sheet] = $10
+    if (match($1, /-[0-9]+$/)) { kind = "rounds"; sheet = sheet " " substr($1, RSTART + 1) }
+    if (!((kind, sheet) in seen)) { seen[kind, sheet] = 1; order[kind, ++sheets[kind]] = sheet }
+    ratio[kind, $2, sheet] = $6; least[kind, $2, sheet] = $7; most[kind, $2, sheet] = $8
+    ours[kind, $2, sheet] = $9; plain[kind, $2, sheet] = $10
     if ($6 > middle) middle = $6
     if ($8 > high) high = $8
-    if (sprintf("%.2f", $6) + 0 > aim) missed[$1, sheet] = 1
+    if (sprintf("%.2f", $6) + 0 > aim) missed[kind, sheet] = 1
+}
+
+# What a band is called: a sheet, how often it is redrawn, or a text.
+function label(sheet,   count, part) {
+    count = split(sheet, part, " ")
+    if (!part[2]) return part[1] " events"
+    return (count > 3 ? part[4] " × " : "") "n " part[1] ", k " part[2] ", F " part[3]
 }
 
 # All shapes are gathered in `body`, since the head of the picture says how tall it is.
@@ -33,18 +43,17 @@ function clamp(v, low, high) { return v < low ? low : v > high ? high : v }
 function ratioAt(v) { return 156 + clamp(v, 0, high) / high * 308 }
 
 # The sheets of a kind from `top` down, a band for each and in it a line for each call; answers where they end.
-function ratios(top, title, kind, calls,   count, call, i, w, y, tall, part, v) {
+function ratios(top, title, kind, calls,   count, call, i, w, y, tall, v) {
     count = split(calls, call, " ")
     tall = count * 5 + 5
     if (tall < 17) tall = 17
     text(10, top + 14, 14, "start", title, " font-weight=\"bold\"")
     top += 22
     for (i = 1; i <= sheets[kind]; i++) {
-        split(order[kind, i], part, " ")
         y = top + (i - 1) * tall
         if ((kind, order[kind, i]) in missed) band(6, y, 468, tall, "#fbdcdc")
         else if (i % 2) band(6, y, 468, tall, "#f1f1f1")
-        text(10, y + tall / 2 + 5, 13, "start", part[2] ? "n " part[1] ", k " part[2] ", F " part[3] : part[1] " events",
+        text(10, y + tall / 2 + 5, 13, "start", label(order[kind, i]),
             (kind, order[kind, i]) in missed ? " font-weight=\"bold\"" : "")
     }
     y = top + sheets[kind] * tall
@@ -126,6 +135,7 @@ END {
     y = ratios(98, "Sheets like charts", "chart", all)
     y = ratios(y, "Sheets with all draws different", "different", all)
     y = ratios(y, "Sheets made to slow check and aggressive", "worst", "check aggressive")
+    if (sheets["rounds"]) y = ratios(y, "Sheets in rounds (k 64: all draws different)", "rounds", all)
     y = ratios(y, "Texts: written (blue) and read (orange)", "text", "write read")
     y += 18
     text(10, y, 16, "start", "Growth: time as a multiple of the smallest size's", " font-weight=\"bold\"")

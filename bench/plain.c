@@ -2,12 +2,13 @@
    each slot search a scan over the slots, each next-draw search a scan over the remaining draws, a text read once from
    its first byte to its last. The benchmark holds the library against it. */
 #include "plain.h"
+#include <string.h>
 
 enum { MOST_SLOTS = 64, MOST_LOAD_TIME = 1000, MOST_DRAWS = 4096, MOST_EVENTS = 4096, LAST_TICK = 8388607 };
 enum { NOTHING = 65535, LAST_SLOT = 255, LAST_SYMBOL = 65535 };
 
 struct job {
-    uint32_t slots, load_time, draws;
+    uint32_t slots, load_time, draws, round; /* draws: those of all rounds; round: those of one */
     const uint8_t *starting, *drawn;
 };
 
@@ -60,7 +61,7 @@ static int symbols_are_right(const struct job *job)
     for (i = 0; i < job->slots; i++)
         for (j = 0; j < i; j++)
             if (starting_symbol(job, i) != NOTHING && starting_symbol(job, i) == starting_symbol(job, j)) return 0;
-    for (i = 0; i < job->draws; i++)
+    for (i = 0; i < job->round; i++)
         if (draw_symbol(job, i) == NOTHING) return 0;
     return 1;
 }
@@ -72,13 +73,29 @@ static uint32_t read_job(const uint8_t *bytes, size_t length, struct job *job)
     if (bytes[4] != 1) return 2;
     job->slots = bytes[5];
     job->load_time = two(bytes + 6);
-    job->draws = two(bytes + 8);
+    job->round = two(bytes + 8);
     if (job->slots < 1 || job->slots > MOST_SLOTS) return 3;
-    if (job->load_time < 1 || job->load_time > MOST_LOAD_TIME || job->draws > MOST_DRAWS) return 3;
-    if (length - 4 != 6 + 2 * job->slots + 2 * job->draws) return 4;
+    if (job->load_time < 1 || job->load_time > MOST_LOAD_TIME || job->round > MOST_DRAWS) return 3;
+    if (length - 4 != 6 + 2 * job->slots + 2 * job->round) return 4;
     job->starting = bytes + 10;
     job->drawn = job->starting + 2 * job->slots;
     return symbols_are_right(job) ? 0 : 5;
+}
+
+/* The same for a job in rounds. The draws of several rounds are copied into the row, one round after the other, so that
+   nothing else knows of rounds; one round is read where it is. */
+static uint32_t read_rounds(const uint8_t *bytes, size_t length, uint32_t rounds, uint8_t *row, struct job *job)
+{
+    uint64_t draws;
+    uint32_t place, refusal = read_job(bytes, length, job);
+    if (refusal) return refusal;
+    draws = (uint64_t)rounds * job->round;
+    if (rounds == 0 || draws > MOST_DRAWS) return 17;
+    job->draws = (uint32_t)draws;
+    if (rounds == 1) return 0;
+    for (place = 0; place < job->draws; place += job->round) memcpy(row + 2 * place, job->drawn, 2 * job->round);
+    job->drawn = row;
+    return 0;
 }
 
 static int list_is_right(const uint8_t *bytes, size_t length)
@@ -204,13 +221,13 @@ static govahrin_answer follow(const struct job *job, const uint8_t *list, uint32
 }
 
 govahrin_answer plain_check(const uint8_t *job_bytes, size_t job_len, const uint8_t *list, size_t list_len,
-                            uint8_t *ticks, size_t ticks_len, uint8_t *slots, size_t slots_len)
+                            uint32_t rounds, uint8_t *ticks, size_t ticks_len, uint8_t *slots, size_t slots_len)
 {
     uint32_t draw_ticks[MOST_DRAWS], i;
-    uint8_t draw_slots[MOST_DRAWS];
+    uint8_t draw_slots[MOST_DRAWS], row[2 * MOST_DRAWS];
     struct job job;
     govahrin_answer answer;
-    uint32_t refusal = read_job(job_bytes, job_len, &job);
+    uint32_t refusal = read_rounds(job_bytes, job_len, rounds, row, &job);
     if (refusal) return refused(refusal, 0);
     if (!list_is_right(list, list_len)) return refused(8, 0);
     if (ticks_len < 4 * (size_t)job.draws || slots_len < job.draws) return refused(7, 0);
@@ -343,12 +360,14 @@ static govahrin_answer run(uint32_t plan, const struct job *job, struct order *o
     return accepted(&display);
 }
 
-govahrin_answer plain_plan(const uint8_t *job_bytes, size_t job_len, uint32_t plan, uint8_t *room, size_t room_len)
+govahrin_answer plain_plan(const uint8_t *job_bytes, size_t job_len, uint32_t plan, uint32_t rounds, uint8_t *room,
+                           size_t room_len)
 {
     struct order opts, made;
+    uint8_t row[2 * MOST_DRAWS];
     struct job job;
     govahrin_answer answer;
-    uint32_t i, refusal = read_job(job_bytes, job_len, &job);
+    uint32_t i, refusal = read_rounds(job_bytes, job_len, rounds, row, &job);
     if (refusal) return refused(refusal, 0);
     if (plan > 3) return refused(6, 0);
     if (room_len < 7 + 7 * (size_t)job.draws) return refused(7, 0);

@@ -1,6 +1,6 @@
-# Makes a row of all repeats of one measurement: sheet, call, n, k, F, then library / plain program (median, least,
-# greatest), the median nanoseconds of the library and of the plain program, and how many repeats there were. Lines that
-# begin with # tell of the machine and are passed on.
+# Makes a row of all repeats of one measurement: sheet (with its rounds, as chart-4, where it is redrawn), call, n, k, F, then
+# library / plain program (median, least, greatest), the median nanoseconds of the library and of the plain program, and how
+# many repeats there were. Lines that begin with # tell of the machine and are passed on.
 
 /^#/ { print; next }
 

@@ -20,6 +20,7 @@ void put_job(unsigned n, unsigned k, unsigned f)
     input.n = n;
     input.k = k;
     input.f = f;
+    input.rounds = 1;
     input.job_len = 10 + 2 * k + 2 * n;
     put(input.job, 4, (uint32_t)input.job_len - 4);
     put(input.job + 4, 1, 1);
@@ -65,15 +66,15 @@ static void call(int library, int what, struct output *o)
     if (what == WRITE || what == READ)
         call_text(library, what, o);
     else if (what == CHECK && library)
-        o->answer = govahrin_check(input.job, input.job_len, input.list, input.list_len, o->ticks, sizeof o->ticks,
-                                   o->slots, sizeof o->slots);
+        o->answer = govahrin_check(input.job, input.job_len, input.list, input.list_len, input.rounds, o->ticks,
+                                   sizeof o->ticks, o->slots, sizeof o->slots);
     else if (what == CHECK)
-        o->answer = plain_check(input.job, input.job_len, input.list, input.list_len, o->ticks, sizeof o->ticks,
-                                o->slots, sizeof o->slots);
+        o->answer = plain_check(input.job, input.job_len, input.list, input.list_len, input.rounds, o->ticks,
+                                sizeof o->ticks, o->slots, sizeof o->slots);
     else if (library)
-        o->answer = govahrin_plan(input.job, input.job_len, (uint32_t)what, o->room, ROOM);
+        o->answer = govahrin_plan(input.job, input.job_len, (uint32_t)what, input.rounds, o->room, ROOM);
     else
-        o->answer = plain_plan(input.job, input.job_len, (uint32_t)what, o->room, ROOM);
+        o->answer = plain_plan(input.job, input.job_len, (uint32_t)what, input.rounds, o->room, ROOM);
 }
 
 int agree(int what)

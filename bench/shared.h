@@ -11,7 +11,7 @@ enum { AGGRESSIVE = 0, CHECK = 4, WRITE = 5, READ = 6 };
 struct input {
     uint8_t job[10 + 2 * 64 + 2 * 4096], list[ROOM], text[TEXT_ROOM];
     size_t job_len, list_len, text_len;
-    unsigned n, k, f;
+    unsigned n, k, f, rounds;
 };
 
 struct output {
@@ -23,7 +23,7 @@ struct output {
 extern struct input input;
 extern struct output ours, plain;
 
-/* A job whose slots start with the symbols 0 to k - 1; its draws are still to be put. */
+/* A job whose slots start with the symbols 0 to k - 1, for one round; its draws are still to be put. */
 void put_job(unsigned n, unsigned k, unsigned f);
 void put_draw(unsigned place, unsigned symbol);
 

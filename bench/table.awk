@@ -13,11 +13,19 @@ BEGIN {
 
 /^#/ { key = $2; sub(/^# [^ ]* /, ""); told[key] = $0; next }
 
+# All sheets that are redrawn are of one kind; what they are and their rounds stand after n, k and F.
 {
     kind = $1
     sheet = $3 " " $4 " " $5
     texts = kind == "text" || kind == "wide"
     named = called[kind] (texts ? ", " $3 " events" : ", n " $3 ", k " $4 ", F " $5)
+    if (match($1, /-[0-9]+$/)) {
+        kind = "rounds"
+        of = substr($1, 1, RSTART - 1)
+        rounds = substr($1, RSTART + 1)
+        sheet = sheet " " of " " rounds
+        named = called[of] ", n " $3 ", k " $4 ", F " $5 ", " rounds " rounds"
+    }
     misses = sprintf("%.2f", $6) + 0 > aim
     if (!((kind, sheet) in seen)) { seen[kind, sheet] = 1; order[kind, ++sheets[kind]] = sheet }
     ratio[kind, $2, sheet] = (misses ? "**" shown($6) "**" : shown($6)) " (" shown($7) " to " shown($8) ")"
@@ -65,10 +73,10 @@ function textTable(   i, kind, sheet) {
 # A table of the ratios and the library's times on all sheets of a kind.
 function table(kind, calls,   count, call, i, w, part, line) {
     count = split(calls, call, " ")
-    head("| n | k | F |", calls)
+    head((kind == "rounds" ? "| sheet | rounds |" : "|") " n | k | F |", calls)
     for (i = 1; i <= sheets[kind]; i++) {
         split(order[kind, i], part, " ")
-        line = "| " part[1] " | " part[2] " | " part[3] " |"
+        line = (kind == "rounds" ? "| " called[part[4]] " | " part[5] " |" : "|") " " part[1] " | " part[2] " | " part[3] " |"
         for (w = 1; w <= count; w++)
             line = line " " ratio[kind, call[w], order[kind, i]] ", " time(ours[kind, call[w], order[kind, i]]) " |"
         print line
@@ -142,6 +150,14 @@ END {
     table("worst", "check aggressive")
     print "\nThe slowest plan found takes " time(slowest["plan"]) " (" slowestAt["plan"] ")."
     print "The slowest check found takes " time(slowest["check"]) " (" slowestAt["check"] ")."
+
+    if (sheets["rounds"]) {
+        print "\n## Sheets in rounds\n"
+        print "Sheets as above that are redrawn: the n draws of a sheet, in so many rounds. The plain program first copies the draws"
+        print "of all rounds into one row. So does the library for a plan; its check reads each draw at its place in the round. The"
+        print "check is given the list that conservative plans for all rounds. Every other sheet on this page is drawn once."
+        table("rounds", all)
+    }
 
     print "\n## Texts\n"
     print "A list written as text, and that text read. Its ticks rise by 1 to 500, its slots and symbols are any, by chance. In the"

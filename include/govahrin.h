@@ -41,11 +41,17 @@
        2 1 3
        7 1 2
 
+   ROUNDS. On a rolling display the sheet is drawn again from its first symbol. A plan and a check are asked for a number
+   of rounds r: the draws are the n draws of the job r times over, and one load list covers them all. There is at least
+   one round, and at most 4,096 draws in all of them, r * n; a job with no draws may be drawn any number of times. Draws
+   count from 0 through the rounds: draw n is the first of the second round. Ticks go on from round to round, and the
+   slots hold what they held. A symbol that is drawn again in a later round has its next draw there.
+
    ONE TICK, while draws remain. First a load begun F ticks ago puts its symbol into its slot. Then, if the next event
    has this tick, its load begins: what the slot held is gone at once. Then, if some slot holds the next draw's symbol,
    it is drawn from there; if not, this tick is a wait.
 
-   AN EXAMPLE. Two slots with symbols 1 and 2, load time 4, draws 1 2 3 1. It prints `8 ticks, 4 of them waits`.
+   AN EXAMPLE. Two slots with symbols 1 and 2, load time 4, draws 1 2 3 1, once. It prints `8 ticks, 4 of them waits`.
 
        #include <govahrin.h>
        #include <stdio.h>
@@ -54,7 +60,7 @@
        {
            static const uint8_t job[] = {0, 0, 0, 18, 1, 2, 0, 4, 0, 4, 0, 1, 0, 2, 0, 1, 0, 2, 0, 3, 0, 1};
            uint8_t list[GOVAHRIN_PLAN_ROOM(4)];
-           govahrin_answer a = govahrin_plan(job, sizeof job, GOVAHRIN_CONSERVATIVE, list, sizeof list);
+           govahrin_answer a = govahrin_plan(job, sizeof job, GOVAHRIN_CONSERVATIVE, 1, list, sizeof list);
            if (a.number) {
                printf("refused %u %u: %s\n", (unsigned)a.number, (unsigned)a.detail, govahrin_words(a.number));
                return 1;
@@ -63,7 +69,7 @@
            return 0;
        }
 
-   examples/host.c is a whole host: it plans, checks, and steps a display tick by tick.
+   examples/host.c is a whole host: it plans two rounds, checks, and steps a display tick by tick.
 
    MEMORY. The library has no state, allocates nothing and keeps no pointer. It asks nothing of the bytes that it is
    lent: any content, any alignment, any length, and a null pointer where the length is 0. Three things it cannot see,
@@ -90,9 +96,9 @@
 
 /* The version of the library and of this header. Until 1.0 the surface changes with the requests. */
 #define GOVAHRIN_VERSION_MAJOR 0
-#define GOVAHRIN_VERSION_MINOR 4
+#define GOVAHRIN_VERSION_MINOR 5
 #define GOVAHRIN_VERSION_PATCH 0
-#define GOVAHRIN_VERSION "0.4.0"
+#define GOVAHRIN_VERSION "0.5.0"
 
 #ifdef __cplusplus
 extern "C" {
@@ -102,8 +108,8 @@ extern "C" {
    detail, the counts 0, and every lent byte as it was before the call. */
 typedef struct {
     uint32_t number;  /* 0, or why the call was refused: see the refusals below */
-    uint32_t detail;  /* the event or the draw that a refusal names, counted from 0; else 0 */
-    uint32_t elapsed; /* ticks until all draws are done; always n + waits */
+    uint32_t detail;  /* the event or the draw that a refusal names, counted from 0 and through the rounds; else 0 */
+    uint32_t elapsed; /* ticks until all draws are done; always r * n + waits */
     uint32_t waits;   /* ticks in which nothing was drawn */
     uint32_t loads;   /* loads begun; one may still be under way at the end */
     uint32_t longest; /* the longest single wait: the most waits between a draw and the draw before it, or the start */
@@ -117,9 +123,9 @@ typedef struct {
     uint32_t size;   /* bytes written, from the first byte of the lent room on; 0 on a refusal */
 } govahrin_written;
 
-/* The refusals. The first that applies is given: for a plan in the order 1 to 5, 6, 7, 15; for a check 1 to 5, 8, 7, 9,
-   then 10 to 14 as time meets them, and 10, 11, 12 for one event; for the writer of a text 8, 9, 7; for the reader 16,
-   9, 7. Detail is 0 unless said otherwise. */
+/* The refusals. The first that applies is given: for a plan in the order 1 to 5, 17, 6, 7, 15; for a check 1 to 5, 17, 8,
+   7, 9, then 10 to 14 as time meets them, and 10, 11, 12 for one event; for the writer of a text 8, 9, 7; for the reader
+   16, 9, 7. Detail is 0 unless said otherwise. */
 enum {
     GOVAHRIN_ACCEPTED = 0,
     GOVAHRIN_JOB_LENGTH = 1,     /* the job has under 10 bytes, or its length is not the count of the bytes after it */
@@ -137,8 +143,9 @@ enum {
     GOVAHRIN_DRAW_NEVER = 13,    /* a draw's symbol is in no slot, no load under way, no event left; detail: the draw */
     GOVAHRIN_EVENT_LEFT = 14,    /* all draws are done and an event is left; detail: the first left */
     GOVAHRIN_PLAN_TOO_LONG = 15, /* a plan's elapsed would pass 8,388,607; no job within the limits is so long */
-    GOVAHRIN_TEXT_LINE = 16      /* a line is outside the shape, its slot over 255 or its symbol over 65535, or it is the
+    GOVAHRIN_TEXT_LINE = 16,     /* a line is outside the shape, its slot over 255 or its symbol over 65535, or it is the
                                     4,097th; detail: the first such line */
+    GOVAHRIN_ROUNDS_NUMBER = 17  /* the number of rounds is 0, or all rounds together, r * n, have more than 4,096 draws */
 };
 
 /* A refusal's number in words, a line without its end. Where they say "an event", "a draw" or "a line", detail is which
@@ -164,6 +171,7 @@ static inline const char *govahrin_words(uint32_t number)
         "the plan would take more than 8,388,607 ticks",
         ("a line is not tick, slot and symbol in decimal with one blank between and a line feed, "
          "or its slot is over 255, its symbol over 65535, or it is one line too many"),
+        "the number of rounds is 0, or all rounds together have more than 4,096 draws",
     };
     return number < sizeof words / sizeof words[0] ? words[number] : "no refusal has this number";
 }
@@ -179,14 +187,16 @@ enum {
     GOVAHRIN_LRU = 3           /* loads on demand, in place of the symbol drawn longest ago */
 };
 
-/* Sizes in bytes, for k slots, n draws and m events. A line of a text has 7 + 1 + 3 + 1 + 5 + 1 bytes at most. */
+/* Sizes in bytes, for k slots, n draws in a job, d draws in all rounds (r * n) and m events. A line of a text has
+   7 + 1 + 3 + 1 + 5 + 1 bytes at most. */
 #define GOVAHRIN_JOB_SIZE(k, n) (10 + 2 * (size_t)(k) + 2 * (size_t)(n))
 #define GOVAHRIN_LIST_SIZE(m) (7 + 7 * (size_t)(m))
-#define GOVAHRIN_PLAN_ROOM(n) (7 + 7 * (size_t)(n))
-#define GOVAHRIN_TICKS_ROOM(n) (4 * (size_t)(n))
-#define GOVAHRIN_SLOTS_ROOM(n) ((size_t)(n))
+#define GOVAHRIN_PLAN_ROOM(d) (7 + 7 * (size_t)(d))
+#define GOVAHRIN_TICKS_ROOM(d) (4 * (size_t)(d))
+#define GOVAHRIN_SLOTS_ROOM(d) ((size_t)(d))
 #define GOVAHRIN_TEXT_ROOM(m) (18 * (size_t)(m))
 
+/* The most draws are those of a job, and of all rounds together. */
 #define GOVAHRIN_MOST_SLOTS 64
 #define GOVAHRIN_MOST_LOAD_TIME 1000
 #define GOVAHRIN_MOST_DRAWS 4096
@@ -201,23 +211,28 @@ enum {
 #define GOVAHRIN_CHECK_STACK 41984
 #define GOVAHRIN_TEXT_STACK 32768
 
-/* Plans a job by one of the four plans.
+/* Plans some rounds of a job by one of the four plans.
    job, job_len    the job's bytes; only read
    plan            GOVAHRIN_AGGRESSIVE, GOVAHRIN_CONSERVATIVE, GOVAHRIN_OPT or GOVAHRIN_LRU
-   room, room_len  lent room of at least GOVAHRIN_PLAN_ROOM(n) bytes
-   Accepted: the load list is in room from its first byte and has GOVAHRIN_LIST_SIZE(loads) bytes; the bytes after
-   it are as they were. The counts are those that a check of the list answers. Refusals 1 to 7 and 15. */
-govahrin_answer govahrin_plan(const uint8_t *job, size_t job_len, uint32_t plan, uint8_t *room, size_t room_len);
+   rounds          how often the sheet is drawn, r; 1 for a sheet that is not redrawn
+   room, room_len  lent room of at least GOVAHRIN_PLAN_ROOM(r * n) bytes
+   Accepted: the load list of all rounds is in room from its first byte and has GOVAHRIN_LIST_SIZE(loads) bytes; the bytes
+   after it are as they were. The counts are those that a check of the list, for as many rounds, answers. Refusals 1 to 7,
+   15 and 17. */
+govahrin_answer govahrin_plan(const uint8_t *job, size_t job_len, uint32_t plan, uint32_t rounds, uint8_t *room,
+                              size_t room_len);
 
-/* Checks a load list against a job: whoever made the list, every draw finds its symbol in a slot, or it is refused.
+/* Checks a load list against some rounds of a job: whoever made the list, every draw finds its symbol in a slot, or it is
+   refused.
    job, job_len      the job's bytes; only read
    list, list_len    the list's bytes; only read
-   ticks, ticks_len  lent room of at least GOVAHRIN_TICKS_ROOM(n) bytes
-   slots, slots_len  lent room of at least GOVAHRIN_SLOTS_ROOM(n) bytes
-   Accepted: ticks has for each draw its tick, 4 big-endian bytes each, and slots the slot it is drawn from, a byte
-   each; the bytes after them are as they were. Refusals 1 to 5 and 7 to 14. */
+   rounds            how often the sheet is drawn, r; 1 for a sheet that is not redrawn
+   ticks, ticks_len  lent room of at least GOVAHRIN_TICKS_ROOM(r * n) bytes
+   slots, slots_len  lent room of at least GOVAHRIN_SLOTS_ROOM(r * n) bytes
+   Accepted: ticks has for each draw of all rounds its tick, 4 big-endian bytes each, and slots the slot it is drawn from,
+   a byte each; the bytes after them are as they were. Refusals 1 to 5, 7 to 14 and 17. */
 govahrin_answer govahrin_check(const uint8_t *job, size_t job_len, const uint8_t *list, size_t list_len,
-                               uint8_t *ticks, size_t ticks_len, uint8_t *slots, size_t slots_len);
+                               uint32_t rounds, uint8_t *ticks, size_t ticks_len, uint8_t *slots, size_t slots_len);
 
 /* Writes a load list as text.
    list, list_len  the list's bytes; only read

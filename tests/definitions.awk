@@ -30,27 +30,30 @@ function flush() {
     if (!held) return
     theorems++
     table = table "\npart-" theorems " : map found (" substr(rows, 5) "[]) ≡ map expected (" substr(rows, 5) "[])\n" \
-        "unfolding planned checked run tick beginning happened place symbols doubled missing ranksFrom greatest eventsIn eventsBytes due firstBadTick\n" \
-        "    firstOf digitsOf textOf digitCount numberFrom readLine readLines writeTests readTests\n" \
+        "unfolding planned checked run tick beginning happened place symbols timesOver doubled missing ranksFrom greatest eventsIn eventsBytes\n" \
+        "    due firstBadTick firstOf digitsOf textOf digitCount numberFrom readLine readLines writeTests readTests\n" \
         "part-" theorems " = refl\n"
     rows = ""
     held = 0
 }
 
-$1 == "plan" && $8 <= most {
-    row("plan " bytes($2) " " $3 " " $4, numbers($6 "," $7 "," $8 "," $9 "," $10 "," $11))
-    row("list " bytes($2) " " $3 " " $4, bytes($12))
-    seen[$6]++
-    if ($6 == 0) plans[$3]++
+# A question of so many rounds.
+function rounds(number, question, answer) { row("in-rounds " number " (" question ")", answer) }
+
+$1 == "plan" && $9 <= most {
+    rounds($4, "plan " bytes($2) " " $3 " " $5, numbers($7 "," $8 "," $9 "," $10 "," $11 "," $12))
+    rounds($4, "list " bytes($2) " " $3 " " $5, bytes($13))
+    seen[$7]++
+    if ($7 == 0) plans[$3]++
     used++
     if (++held == 4) flush()
 }
 
-$1 == "check" && $9 <= most {
-    row("check " bytes($2) " " bytes($3) " " $4 " " $5, numbers($7 "," $8 "," $9 "," $10 "," $11 "," $12))
-    row("ticks " bytes($2) " " bytes($3) " " $4 " " $5, numbers($13))
-    row("slots " bytes($2) " " bytes($3) " " $4 " " $5, numbers($14))
-    seen[$7]++
+$1 == "check" && $10 <= most {
+    rounds($4, "check " bytes($2) " " bytes($3) " " $5 " " $6, numbers($8 "," $9 "," $10 "," $11 "," $12 "," $13))
+    rounds($4, "ticks " bytes($2) " " bytes($3) " " $5 " " $6, numbers($14))
+    rounds($4, "slots " bytes($2) " " bytes($3) " " $5 " " $6, numbers($15))
+    seen[$8]++
     used++
     if (++held == 4) flush()
 }
@@ -72,18 +75,18 @@ END {
     print "use mathlib.Core.Path.{_≡_, refl}"
     print "use mathlib.Core.List.{[], _∷_, map}"
     print "use Rattle.rules.specs.Basics.{place}"
-    print "use Rattle.rules.specs.Job.{symbols}"
+    print "use Rattle.rules.specs.Job.{symbols, timesOver}"
     print "use Rattle.rules.specs.Order.{firstOf}"
     print "use Rattle.rules.specs.LoadList.{eventsIn, eventsBytes}"
     print "use Rattle.rules.specs.Display.{run, tick, beginning, happened}"
     print "use Rattle.rules.specs.Plans.{missing, ranksFrom, greatest}"
     print "use Rattle.rules.specs.Refusals.{checked, planned, due, firstBadTick, doubled}"
     print "use Rattle.rules.specs.Text.{digitsOf, textOf, digitCount, numberFrom, readLine, readLines, writeTests, readTests}"
-    print "use Rattle.rules.specs.Worked.{Row, row, plan, list, check, ticks, slots, text-written, text-read, found, expected}"
+    print "use Rattle.rules.specs.Worked.{Row, row, plan, list, check, ticks, slots, text-written, text-read, in-rounds, found, expected}"
     print table
     line = "tests/definitions: " used " vectors; plans accepted:"
     for (p = 0; p <= 3; p++) line = line " " p " x" plans[p] + 0
     line = line "; by number:"
-    for (n = 0; n <= 16; n++) if (seen[n]) line = line " " n " x" seen[n]
+    for (n = 0; n <= 17; n++) if (seen[n]) line = line " " n " x" seen[n]
     print line > report
 }

@@ -101,32 +101,33 @@ static void print_answer(govahrin_answer answer)
            (unsigned)answer.waits, (unsigned)answer.loads, (unsigned)answer.longest);
 }
 
-static size_t draws(void) { return number(job.at + 8, 2); }
+/* The draws of all rounds. */
+static size_t draws(uint32_t rounds) { return (size_t)rounds * number(job.at + 8, 2); }
 
-static void run_plan(uint32_t plan, size_t room_length, unsigned turn)
+static void run_plan(uint32_t plan, uint32_t rounds, size_t room_length, unsigned turn)
 {
     govahrin_answer answer;
     size_t written;
     lend(&room, room_length, turn + 1);
     remember(&job), remember(&room);
-    answer = govahrin_plan(given(&job, turn), job.length, plan, given(&room, turn), room.length);
+    answer = govahrin_plan(given(&job, turn), job.length, plan, rounds, given(&room, turn), room.length);
     written = answer.number ? 0 : GOVAHRIN_LIST_SIZE(answer.loads);
     print_answer(answer);
     print_bytes(room.at, written <= room.length ? written : 0);
     look_at(&job, 0), look_at(&room, written);
 }
 
-/* Ticks are lent with up to three bytes over, which are no place for a tick. */
-static void run_check(size_t tick_places, size_t slot_places, unsigned turn)
+/* Ticks are lent with up to three bytes over, which are no place for a tick. No more draws are printed than there are places. */
+static void run_check(uint32_t rounds, size_t tick_places, size_t slot_places, unsigned turn)
 {
     govahrin_answer answer;
     size_t n;
     lend(&ticks, GOVAHRIN_TICKS_ROOM(tick_places) + turn % 4, turn + 2);
     lend(&slots, slot_places, turn + 3);
     remember(&job), remember(&list), remember(&ticks), remember(&slots);
-    answer = govahrin_check(given(&job, turn), job.length, given(&list, turn), list.length, given(&ticks, turn),
+    answer = govahrin_check(given(&job, turn), job.length, given(&list, turn), list.length, rounds, given(&ticks, turn),
                             ticks.length, given(&slots, turn), slots.length);
-    n = answer.number ? 0 : draws();
+    n = answer.number || draws(rounds) > slots.length ? 0 : draws(rounds);
     print_answer(answer);
     print_numbers(ticks.at, n, 4);
     putchar(' ');
@@ -189,16 +190,19 @@ static size_t size(void) { return strtoul(word(NULL), NULL, 10); }
 static void run_kind(const char *kind, unsigned turn)
 {
     if (strcmp(kind, "plan") == 0) {
-        uint32_t plan;
+        uint32_t plan, rounds;
         lend_bytes(&job, word(NULL), turn);
         plan = (uint32_t)size();
-        run_plan(plan, size(), turn);
+        rounds = (uint32_t)size();
+        run_plan(plan, rounds, size(), turn);
     } else if (strcmp(kind, "check") == 0) {
+        uint32_t rounds;
         size_t places;
         lend_bytes(&job, word(NULL), turn);
         lend_bytes(&list, word(NULL), turn + 1);
+        rounds = (uint32_t)size();
         places = size();
-        run_check(places, size(), turn);
+        run_check(rounds, places, size(), turn);
     } else if (strcmp(kind, "text-write") == 0) {
         lend_bytes(&list, word(NULL), turn);
         run_write(size(), turn);

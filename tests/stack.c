@@ -1,5 +1,5 @@
 /* Measures how much stack a call uses: paints the memory below the stack pointer, makes the call, and looks how deep the paint
-   is gone. Accepted calls and refusals, on the largest job, lists and texts. The words are `plan`, `check` or `text` and a
+   is gone. Accepted calls and refusals, on the largest job, rounds, lists and texts. The words are `plan`, `check` or `text` and a
    figure; status 1 where more is used. Compile it without optimisation: it reads what a function had, after that function has ended.
    It calls neither memcpy nor memset, so that a loader which binds late looks them up within the library's calls. */
 #include "govahrin.h"
@@ -8,12 +8,13 @@
 #include <string.h>
 
 enum { SLOTS = GOVAHRIN_MOST_SLOTS, TIME = GOVAHRIN_MOST_LOAD_TIME, DRAWS = GOVAHRIN_MOST_DRAWS, LAST = DRAWS - 1 };
-enum { PAINTED = 1 << 18 };
+enum { ROUND = SLOTS + 1, ROUNDS = LAST / ROUND, PAINTED = 1 << 18 };
 
 static uint8_t job[GOVAHRIN_JOB_SIZE(SLOTS, DRAWS)], list[GOVAHRIN_PLAN_ROOM(DRAWS)], room[GOVAHRIN_PLAN_ROOM(DRAWS)];
 static uint8_t ticks[GOVAHRIN_TICKS_ROOM(DRAWS)], slots[GOVAHRIN_SLOTS_ROOM(DRAWS)];
 static uint8_t text[GOVAHRIN_TEXT_ROOM(DRAWS) + 1];
 static size_t job_len, list_len, room_len, ticks_len, text_len;
+static uint32_t rounds;
 static uint8_t *const last_event = list + GOVAHRIN_LIST_SIZE(LAST);
 
 /* The call to measure: one of the plans, a check, the writer or the reader of a text. The number that it answers. */
@@ -36,13 +37,13 @@ static __attribute__((noinline)) void paint_below(void)
 static __attribute__((noinline)) void call(void)
 {
     if (called == CHECK)
-        answered = govahrin_check(job, job_len, list, list_len, ticks, ticks_len, slots, sizeof slots).number;
+        answered = govahrin_check(job, job_len, list, list_len, rounds, ticks, ticks_len, slots, sizeof slots).number;
     else if (called == WRITE)
         answered = govahrin_write_text(list, list_len, text, text_len).number;
     else if (called == READ)
         answered = govahrin_read_text(text, text_len, room, room_len).number;
     else
-        answered = govahrin_plan(job, job_len, called, room, room_len).number;
+        answered = govahrin_plan(job, job_len, called, rounds, room, room_len).number;
 }
 
 /* The bytes below this function's frame that are painted no more. The few of call() itself are counted in. */
@@ -81,7 +82,7 @@ static void put(uint8_t *at, unsigned bytes, uint32_t number)
 static void restore(void)
 {
     unsigned i;
-    job_len = sizeof job, list_len = sizeof list, room_len = sizeof room, ticks_len = sizeof ticks;
+    rounds = 1, job_len = sizeof job, list_len = sizeof list, room_len = sizeof room, ticks_len = sizeof ticks;
     put(job, 4, sizeof job - 4);
     job[4] = 1, job[5] = SLOTS;
     put(job + 6, 2, TIME);
@@ -98,7 +99,30 @@ static void restore(void)
     }
 }
 
-/* Jobs that both calls refuse. */
+/* The first draws of the job alone. */
+static void keep_draws(unsigned draws)
+{
+    job_len = GOVAHRIN_JOB_SIZE(SLOTS, draws);
+    put(job, 4, (uint32_t)job_len - 4);
+    put(job + 8, 2, draws);
+}
+
+/* The first events of the list alone. */
+static void keep_events(unsigned events)
+{
+    list_len = GOVAHRIN_LIST_SIZE(events);
+    put(list, 4, (uint32_t)list_len - 4);
+    put(list + 5, 2, events);
+}
+
+/* The same draws but for the last, in rounds of 65. */
+static void restore_rounds(void)
+{
+    restore(), keep_draws(ROUND), keep_events(LAST);
+    rounds = ROUNDS;
+}
+
+/* Jobs and rounds that both calls refuse. */
 static void measure_jobs(uint32_t which)
 {
     restore(), job_len--;
@@ -111,11 +135,15 @@ static void measure_jobs(uint32_t which)
     measure(which, GOVAHRIN_JOB_SIZE_WRONG);
     restore(), put(job + sizeof job - 2, 2, GOVAHRIN_FREE);
     measure(which, GOVAHRIN_JOB_SYMBOLS);
+    restore_rounds(), rounds++;
+    measure(which, GOVAHRIN_ROUNDS_NUMBER);
 }
 
 static void measure_plan(uint32_t which)
 {
     restore();
+    measure(which, GOVAHRIN_ACCEPTED);
+    restore_rounds();
     measure(which, GOVAHRIN_ACCEPTED);
     measure_jobs(which);
     restore(), room_len--;
@@ -126,6 +154,8 @@ static void measure_checks(void)
 {
     const uint32_t before = (TIME + 1) * (LAST - 1);
     restore();
+    measure(CHECK, GOVAHRIN_ACCEPTED);
+    restore_rounds();
     measure(CHECK, GOVAHRIN_ACCEPTED);
     measure_jobs(CHECK);
     restore(), ticks_len--;
@@ -140,9 +170,9 @@ static void measure_checks(void)
     measure(CHECK, GOVAHRIN_EVENT_SLOT);
     restore(), put(last_event + 5, 2, GOVAHRIN_FREE);
     measure(CHECK, GOVAHRIN_EVENT_SYMBOL);
-    restore(), list_len -= 7, put(list, 4, (uint32_t)list_len - 4), put(list + 5, 2, LAST);
+    restore(), keep_events(LAST);
     measure(CHECK, GOVAHRIN_DRAW_NEVER);
-    restore(), job_len -= 2, put(job, 4, (uint32_t)job_len - 4), put(job + 8, 2, LAST);
+    restore(), keep_draws(LAST);
     measure(CHECK, GOVAHRIN_EVENT_LEFT);
 }
 

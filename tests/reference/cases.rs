@@ -1,7 +1,8 @@
-// Random cases from a seed: jobs and lists, whole and damaged in every field, from empty to the limits; lists that a
-// plan made, lists of a player who loads strange symbols into strange slots, and both with events changed.
+// Random cases from a seed: jobs and lists, whole and damaged in every field, from empty to the limits; rounds, from none
+// to far too many; lists that a plan made, lists of a player who loads strange symbols into strange slots, and both with
+// events changed, for the rounds that are asked or for others.
 use crate::dice::Dice;
-use crate::rules::{follow, job_bytes, judge_ticks, list_bytes, planned, Display, Event, Job, FREE, LAST_TICK};
+use crate::rules::{follow, job_bytes, judge_ticks, list_bytes, planned, unrolled, Display, Event, Job, FREE, LAST_TICK, MOST_DRAWS};
 use crate::text::{check_case, plan_case};
 
 pub fn a_case(dice: &mut Dice) -> String {
@@ -57,6 +58,41 @@ fn draws(dice: &mut Dice, n: u64, alphabet: &[u16]) -> Vec<u16> {
         draws.push(symbol);
     }
     draws
+}
+
+// ---- rounds
+
+/// How often a sheet of n draws is drawn: mostly once to four times, and a long one mostly once.
+fn some_rounds(dice: &mut Dice, n: usize) -> u32 {
+    let few = dice.of(&[1, 1, 2, 3, 4]);
+    match dice.between(0, 199) {
+        0..=4 => 0,
+        5..=11 => about_the_most(dice, n),
+        12..=19 => dice.between(5, 40) as u32,
+        20..=33 => too_many(dice, n),
+        _ if few as usize * n > MOST_DRAWS && !dice.one_in(4) => 1,
+        _ => few,
+    }
+}
+
+/// As often as n draws can be drawn, or one round fewer or more.
+fn about_the_most(dice: &mut Dice, n: usize) -> u32 {
+    let most = (MOST_DRAWS / n.max(1)) as u32;
+    dice.of(&[most - 1, most, most, most + 1])
+}
+
+/// Far too many rounds, unless there is nothing to draw. Often their draws are few again when counted at 16 or 32 bits.
+fn too_many(dice: &mut Dice, n: usize) -> u32 {
+    let n = n.max(1) as u64;
+    let passed = (1 << dice.of(&[16, 32])) / n + dice.between(1, 1 + MOST_DRAWS as u64 / n);
+    let rounds = dice.of(&[u32::MAX as u64, 1 << 31, 1 << 16, 4_097, passed, passed, passed]);
+    rounds.min(u32::MAX as u64) as u32
+}
+
+/// The number of draws that room is lent for: those of all rounds, or now and then of one. More than a call takes is one too many.
+fn draws_lent_for(dice: &mut Dice, n: usize, rounds: u32) -> usize {
+    let all = (n as u64 * rounds as u64).min(MOST_DRAWS as u64 + 1);
+    if dice.one_in(16) { n } else { all as usize }
 }
 
 // ---- lists
@@ -236,31 +272,41 @@ pub fn room(dice: &mut Dice, needed: usize) -> usize {
 // ---- cases
 
 fn a_plan(dice: &mut Dice) -> String {
-    let job = a_job(dice);
-    let bytes = bytes_of_job(dice, &job, 9);
+    let sheet = a_job(dice);
+    let rounds = some_rounds(dice, sheet.draws.len());
+    let bytes = bytes_of_job(dice, &sheet, 9);
     let plan = if dice.one_in(16) { dice.of(&[4, 5, 255, 256, 65_536, u32::MAX]) } else { dice.between(0, 3) as u32 };
-    plan_case(&bytes, plan, room(dice, 7 + 7 * job.draws.len()))
+    let draws = draws_lent_for(dice, sheet.draws.len(), rounds);
+    plan_case(&bytes, plan, rounds, room(dice, 7 + 7 * draws))
 }
 
 fn a_check(dice: &mut Dice) -> String {
-    let job = a_job(dice);
+    let sheet = a_job(dice);
+    let rounds = some_rounds(dice, sheet.draws.len());
+    let list = bytes_of_list(dice, &sheet, rounds);
+    let bytes = bytes_of_job(dice, &sheet, 16);
+    let draws = draws_lent_for(dice, sheet.draws.len(), rounds);
+    let (ticks, slots) = (room(dice, draws), room(dice, draws));
+    let both = if dice.one_in(2) { draws } else { slots };
+    check_case(&bytes, &list, rounds, ticks, both)
+}
+
+/// A list for these rounds of a sheet, or for more or fewer; where there are no such rounds, for one.
+fn bytes_of_list(dice: &mut Dice, sheet: &Job, rounds: u32) -> Vec<u8> {
+    let others = [1, rounds.saturating_sub(1), rounds.saturating_add(1)];
+    let made_for = if dice.one_in(6) { dice.of(&others) } else { rounds };
+    let job = unrolled(sheet, made_for).unwrap_or_else(|_| sheet.clone());
     let mut events = a_list(dice, &job);
     if dice.one_in(2) {
         for _ in 0..dice.between(1, 3) {
             change(dice, &job, &mut events);
         }
     }
-    let mut list = list_bytes(&events);
-    if dice.one_in(300) {
-        list = many_events(dice);
-    }
+    let mut list = if dice.one_in(300) { many_events(dice) } else { list_bytes(&events) };
     if dice.one_in(9) {
         damage(dice, 7, &mut list);
     }
-    let bytes = bytes_of_job(dice, &job, 16);
-    let (ticks, slots) = (room(dice, job.draws.len()), room(dice, job.draws.len()));
-    let both = if dice.one_in(2) { job.draws.len() } else { slots };
-    check_case(&bytes, &list, ticks, both)
+    list
 }
 
 /// A list about the limit of 4,096 events.

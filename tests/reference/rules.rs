@@ -4,7 +4,7 @@
 pub const FREE: u16 = 65535;
 const MOST_SLOTS: usize = 64;
 const MOST_LOAD_TIME: usize = 1_000;
-const MOST_DRAWS: usize = 4_096;
+pub const MOST_DRAWS: usize = 4_096;
 const MOST_EVENTS: usize = 4_096;
 pub const LAST_TICK: u64 = 8_388_607;
 
@@ -89,6 +89,15 @@ pub fn read_job(bytes: &[u8]) -> Result<Job, Refusal> {
         return refuse(5, 0);
     }
     Ok(Job { starts, load_time: f as u64, draws })
+}
+
+/// The job of this many rounds: its draws written out, round after round. Refusal 17, with a product that has room at 64 bits.
+pub fn unrolled(job: &Job, rounds: u32) -> Result<Job, Refusal> {
+    let draws = rounds as u64 * job.draws.len() as u64;
+    if rounds == 0 || draws > MOST_DRAWS as u64 {
+        return refuse(17, 0);
+    }
+    Ok(Job { draws: job.draws.repeat(rounds as usize), ..job.clone() })
 }
 
 /// Refusal 8: what is wrong with a list as a whole. Its ticks are judged later, after the lent room.
@@ -259,8 +268,8 @@ impl<'a> Display<'a> {
 
 // ---- a check
 
-pub fn check(job: &[u8], list: &[u8], tick_places: usize, slot_places: usize) -> Result<Run, Refusal> {
-    let job = read_job(job)?;
+pub fn check(job: &[u8], list: &[u8], rounds: u32, tick_places: usize, slot_places: usize) -> Result<Run, Refusal> {
+    let job = unrolled(&read_job(job)?, rounds)?;
     let events = read_list(list)?;
     if tick_places < job.draws.len() || slot_places < job.draws.len() {
         return refuse(7, 0);
@@ -294,8 +303,8 @@ pub fn follow(job: &Job, events: &[Event]) -> Result<Run, Refusal> {
 
 pub const PLAN_NAMES: [&str; 4] = ["aggressive", "conservative", "opt", "lru"];
 
-pub fn plan(job: &[u8], plan: u32, room: usize) -> Result<Run, Refusal> {
-    let job = read_job(job)?;
+pub fn plan(job: &[u8], plan: u32, rounds: u32, room: usize) -> Result<Run, Refusal> {
+    let job = unrolled(&read_job(job)?, rounds)?;
     if plan > 3 {
         return refuse(6, 0);
     }

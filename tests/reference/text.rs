@@ -30,12 +30,12 @@ fn counts(run: &Run) -> String {
     format!("0 0 {} {} {} {}", run.elapsed, run.waits, run.loads, run.longest())
 }
 
-pub fn plan_case(job: &[u8], plan: u32, room: usize) -> String {
-    format!("plan {} {plan} {room}", hex(job))
+pub fn plan_case(job: &[u8], plan: u32, rounds: u32, room: usize) -> String {
+    format!("plan {} {plan} {rounds} {room}", hex(job))
 }
 
-pub fn check_case(job: &[u8], list: &[u8], ticks: usize, slots: usize) -> String {
-    format!("check {} {} {ticks} {slots}", hex(job), hex(list))
+pub fn check_case(job: &[u8], list: &[u8], rounds: u32, ticks: usize, slots: usize) -> String {
+    format!("check {} {} {rounds} {ticks} {slots}", hex(job), hex(list))
 }
 
 pub fn write_case(list: &[u8], room: usize) -> String {
@@ -58,12 +58,13 @@ pub fn answered(line: &str) -> String {
     let case = line.split(" => ").next().unwrap().trim();
     let words: Vec<&str> = case.split(' ').collect();
     let size = |i: usize| words[i].parse::<usize>().expect("a size of lent room");
+    let number = |i: usize| words[i].parse::<u32>().expect("a number of 32 bits");
     let answer = match words[0] {
-        "plan" => match plan(&bytes(words[1]), words[2].parse().expect("a plan number"), size(3)) {
+        "plan" => match plan(&bytes(words[1]), number(2), number(3), size(4)) {
             Ok(run) => format!("{} {}", counts(&run), hex(&list_bytes(&run.events))),
             Err(refusal) => refused(refusal, "-"),
         },
-        "check" => match check(&bytes(words[1]), &bytes(words[2]), size(3), size(4)) {
+        "check" => match check(&bytes(words[1]), &bytes(words[2]), number(3), size(4), size(5)) {
             Ok(run) => format!("{} {} {}", counts(&run), joined(&run.draw_ticks), joined(&run.draw_slots)),
             Err(refusal) => refused(refusal, "- -"),
         },
@@ -104,8 +105,13 @@ fn run_in_words(words: &[&str]) -> String {
         Ok(job) => format!("k {} F {} starts {:?} draws {:?}", job.starts.len(), job.load_time, job.starts, job.draws),
         Err(refusal) => format!("a job refused with {}", refusal.number),
     };
+    let asked = match words[0] {
+        "plan" => format!(" {}, rounds {}, room {}", words[2], words[3], words[4]),
+        "check" => format!(", rounds {}, room for {} ticks and {} slots", words[3], words[4], words[5]),
+        _ => String::new(),
+    };
     let list = if words[0] == "check" { format!("\n  list {}", events_in_words(&bytes(words[2]))) } else { String::new() };
-    format!("{}\n  {job}{list}", words[0])
+    format!("{}{asked}\n  {job}{list}", words[0])
 }
 
 fn events_in_words(list: &[u8]) -> String {

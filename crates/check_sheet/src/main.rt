@@ -1,12 +1,13 @@
-// Checks a load list against a job. Arguments: the files of the two. It prints `accepted`, elapsed, waits, loads and the longest single
-// wait, and then a line for each draw, with its symbol, its tick and its slot; or `refused`, the number and the detail, and a line in words.
+// Checks a load list against a job. Arguments: the files of the two and, where the sheet is drawn more than once, the number of
+// rounds. It prints `accepted`, elapsed, waits, loads and the longest single wait, and then a line for each draw of all rounds, with
+// its symbol, its tick and its slot; or `refused`, the number and the detail, and a line in words.
 use libc::STDERR_FILENO;
 use libc::STDOUT_FILENO;
 use report::say;
 use report::say_counts;
 use report::say_number;
 use rules::Answer;
-use rules::JobReading;
+use rules::CallReading;
 
 // Each of these answers whether all of it was written; the first write that fails is the last that is tried.
 fn print_draw(draw: u16, symbol: u16, tick: u32, slot: u8) -> bool {
@@ -17,17 +18,17 @@ fn print_draw(draw: u16, symbol: u16, tick: u32, slot: u8) -> bool {
         && say(STDOUT_FILENO, b"\n")
 }
 
-// The loop goes over the places lent and not over the job's draws, so that each place is there.
-fn print_draws(job: &[u8], ticks: &[u32; 4096], slots: &[u8; 4096]) -> bool {
-    let reading = sheet::read_job(job);
-    let JobReading::Taken(shape) = reading else {
+// The loop goes over the places lent and not over the draws of the rounds, so that each place is there.
+fn print_draws(job: &[u8], rounds: u32, ticks: &[u32; 4096], slots: &[u8; 4096]) -> bool {
+    let reading = sheet::read_call(job, rounds);
+    let CallReading::Taken(shape) = reading else {
         return true;
     };
     for draw in 0..4096u16 {
         if shape.draws <= draw {
             return true;
         }
-        let symbol = sheet::draw_symbol(job, shape.slots, draw);
+        let symbol = sheet::draw_symbol(job, shape, draw);
         if !print_draw(draw, symbol, ticks[draw as usize], slots[draw as usize]) {
             return false;
         }
@@ -52,20 +53,21 @@ fn print_counts(answer: Answer) -> bool {
         && say(STDOUT_FILENO, b"\n")
 }
 
-fn print_check(job: &[u8], list: &[u8]) -> bool {
+fn print_check(job: &[u8], list: &[u8], rounds: u32) -> bool {
     let mut ticks = [0u32; 4096];
     let mut slots = [0u8; 4096];
-    let answer = checker::check(job, list, &mut ticks, &mut slots);
+    let answer = checker::check(job, list, rounds, &mut ticks, &mut slots);
     if answer.number != 0 {
         return print_refusal(answer.number, answer.detail);
     }
-    print_counts(answer) && print_draws(job, &ticks, &slots)
+    print_counts(answer) && print_draws(job, rounds, &ticks, &slots)
 }
 
 // A job has at most 8,330 bytes and a list at most 28,679. One more of each is read, so that a longer one is refused by those bytes.
 fn main() {
-    if os::arg_count() != 3 {
-        say(STDERR_FILENO, b"write: check_sheet JOB LIST\n");
+    let rounds = report::rounds_argument(3);
+    if os::arg_count() < 3 || 4 < os::arg_count() || !rounds.taken {
+        say(STDERR_FILENO, b"write: check_sheet JOB LIST [ROUNDS]\n");
         return;
     }
     let mut job = [0u8; 8331];
@@ -80,7 +82,7 @@ fn main() {
     }
     let job_count = job_reading.count;
     let list_count = list_reading.count;
-    if !print_check(&job[..job_count], &list[..list_count]) {
+    if !print_check(&job[..job_count], &list[..list_count], rounds.rounds) {
         os::fail(b"cannot write the answer");
     }
 }

@@ -8,7 +8,7 @@ use mathlib.Core.Bool.{true, false}
 use lib.Dec.{ltb}
 use borrow.Author.Tests.{lt-ltb, le-ltb}
 use Rattle.rules.specs.declared.Answer.{Answer}
-use Rattle.rules.specs.declared.Shape.{Shape}
+use Rattle.rules.specs.declared.Unrolled.{Unrolled}
 use Rattle.rules.specs.Job.{Job, Call, shapeOf, startingSymbols, jobOf, most-load-time, most-draws}
 use Rattle.rules.specs.LoadList.{Event}
 use Rattle.rules.specs.Display.{Run, going, refused, then, start, run}
@@ -35,15 +35,15 @@ walking-first asked events held d ticks slots starts fresh =
     walking-start (jobOf asked) events held d ticks slots (atFirst (jobOf asked)) (starts-so (jobOf asked) held d starts fresh)
 
 -- The numbers of a job, as the code has them in its shape.
-module _ {asked : Call} {shape : Shape} (limits : Limits asked shape) where
+module _ {asked : Call} {shape : Unrolled} (limits : Limits asked shape) where
   pub starting-size : (held : List ℕ) → held ≡ startingSymbols (asked .job) → length held ≡ shape .slots
   starting-size held starts =
-      ap length starts ∙ length-symbols (shapeOf (asked .job) .slots) _ ∙ sym (ap (λ (s : Shape). s .slots) (limits .shaped))
+      ap length starts ∙ length-symbols (shapeOf (asked .job) .slots) _ ∙ sym (ap (λ (s : Unrolled). s .slots) (limits .shaped))
 
   -- The ticks that a run may take.
   pub limit-read : 8388607 + 1 + shape .«load_time» + shape .draws ≡ mostTicks (jobOf asked)
   limit-read =
-      let time : shape .«load_time» ≡ shapeOf (asked .job) .«load_time» = ap (λ (s : Shape). s .«load_time») (limits .shaped) in
+      let time : shape .«load_time» ≡ shapeOf (asked .job) .«load_time» = ap (λ (s : Unrolled). s .«load_time») (limits .shaped) in
       omega arith
 
 -- An event is left: refusal 14, and nothing counts as noted.

@@ -12,7 +12,7 @@ check-promise =
       one = λ κs given answer answer′ left left′ asked p q.
           let (at, from) = p .1 in
           let (at′, from′) = q .1 in
-          (same (p .0) (q .0), λ i. (tt, (tt, (same at at′ i, (same from from′ i, tt)))));
+          (same (p .0) (q .0), λ i. (tt, (tt, (tt, (same at at′ i, (same from from′ i, tt))))));
     }
 
 -- So it has with the number of its draws.
@@ -24,6 +24,6 @@ check-draws-promise =
           let (draws, (at, from)) = p .1 in
           let (draws′, (at′, from′)) = q .1 in (
             λ i. record { answer = same (p .0) (q .0) i; draws = same draws draws′ i },
-            λ i. (tt, (tt, (same at at′ i, (same from from′ i, tt)))),
+            λ i. (tt, (tt, (tt, (same at at′ i, (same from from′ i, tt))))),
           );
     }

@@ -4,7 +4,7 @@ use mathlib.Core.Path.{_≡_}
 use mathlib.Core.Bool.{true}
 use mathlib.Core.List.{List, map}
 use lib.ListN.{length, take, drop, set}
-use Rattle.rules.specs.declared.Shape.{Shape}
+use Rattle.rules.specs.declared.Unrolled.{Unrolled}
 use Rattle.rules.specs.declared.MaybeLoad.the-variants.{NoLoad}
 use Rattle.rules.specs.declared.Happening.{Happening}
 use Rattle.rules.specs.declared.Happening.the-variants.{Draw, Wait}
@@ -21,12 +21,12 @@ use Rattle.display.specs.declared.state.Display.{Display}
 use Rattle.checker.specs.declared.checked.Checked.{Checked}
 
 -- Job and list were read: the job is within its limits, and the list has the size of its events.
-pub record BothRead (asked : Call) (list : List ℕ) (shape : Shape) (count : ℕ) : Type 0 where
+pub record BothRead (asked : Call) (list : List ℕ) (shape : Unrolled) (count : ℕ) : Type 0 where
   pub limits : Limits asked shape
   pub sized : Sized count list
 
 -- What a tick asks for: job and list, all slots of the display, counters with room for one more, and a draw that remains.
-pub record MayTick (asked : Call) (list : List ℕ) (shape : Shape) (count : ℕ) (held : List ℕ) (d : Display) : Type 0 where
+pub record MayTick (asked : Call) (list : List ℕ) (shape : Unrolled) (count : ℕ) (held : List ℕ) (d : Display) : Type 0 where
   pub read : BothRead asked list shape count
   pub all-slots : length held ≡ shape .slots
   pub room : Room d
@@ -50,7 +50,7 @@ noted (Draw q) what at buffer = set buffer at (what q)
 noted (Wait cause) what at buffer = buffer
 
 -- What the run of a whole list starts from: job and list, the starting symbols in the slots, and room to note the most draws.
-pub record MayRun (asked : Call) (list : List ℕ) (shape : Shape) (count : ℕ) (held ticks slots : List ℕ) : Type 0 where
+pub record MayRun (asked : Call) (list : List ℕ) (shape : Unrolled) (count : ℕ) (held ticks slots : List ℕ) : Type 0 where
   pub read : BothRead asked list shape count
   pub starts : held ≡ startingSymbols (asked .job)
   pub tick-room : length ticks ≡ most-draws
@@ -81,7 +81,7 @@ pub record CopyRoom (draws : ℕ) (ticks slots at from : List ℕ) : Type 0 wher
   pub slots-from : draws ≤ length from
 
 -- Job and list were read, and both lent buffers have a place for each draw.
-pub record HasRoom (asked : Call) (list : List ℕ) (shape : Shape) (count : ℕ) (ticks slots : List ℕ) : Type 0 where
+pub record HasRoom (asked : Call) (list : List ℕ) (shape : Unrolled) (count : ℕ) (ticks slots : List ℕ) : Type 0 where
   pub read : BothRead asked list shape count
   pub tick-room : shape .draws ≤ length ticks
   pub slot-room : shape .draws ≤ length slots

@@ -4,10 +4,10 @@ use crate::checked::refuse;
 use crate::copy::copy_draws;
 use crate::run::run_list;
 use rules::Answer;
-use rules::JobReading;
+use rules::CallReading;
 use rules::ListReading;
 use rules::MOST_DRAWS;
-use rules::Shape;
+use rules::Unrolled;
 ghost use mathlib.Core.Path.{_≡_};
 ghost use mathlib.Core.Bool.{_||_};
 ghost use lib.ListN.{length, drop};
@@ -31,13 +31,13 @@ fn short_room(draws: u16, ticks: usize, slots: usize) -> bool
 fn hand_out(
     job: &[u8],
     list: &[u8],
-    shape: Shape,
+    shape: Unrolled,
     count: u16,
     ticks: &mut [u32],
     slots: &mut [u8],
 ) -> Checked
-    requires { ⌜ HasRoom (call (now job)) (now list) shape count (now ticks) (now slots) ⌝ }
-    ensures { λ r. ⌜ HandedOut (follows (jobOf (call (now (job .entry)))) (eventsIn count (drop head-size (now (list .entry))))) r (now (ticks .entry)) (now (ticks .exit)) (now (slots .entry)) (now (slots .exit)) ⌝ }
+    requires { ⌜ HasRoom (call (now job) (shape .rounds)) (now list) shape count (now ticks) (now slots) ⌝ }
+    ensures { λ r. ⌜ HandedOut (follows (jobOf (call (now (job .entry)) (shape .rounds))) (eventsIn count (drop head-size (now (list .entry))))) r (now (ticks .entry)) (now (ticks .exit)) (now (slots .entry)) (now (slots .exit)) ⌝ }
 {
     let mut at = [0u32; MOST_DRAWS as usize];
     let mut from = [0u8; MOST_DRAWS as usize];
@@ -49,15 +49,21 @@ fn hand_out(
 }
 
 // The check with the number of draws that it reports, for a host that has to know how much of the buffers was written.
-pub fn check_draws(job: &[u8], list: &[u8], ticks: &mut [u32], slots: &mut [u8]) -> Checked
-    ensures answer { λ r. ⌜ r .answer ≡ answerOf (checked (call (now (job .entry))) (now (list .entry)) (length (now (ticks .entry))) (length (now (slots .entry)))) ⌝ }
-    ensures draws { λ r. ⌜ r .draws ≡ length (ticksOf (checked (call (now (job .entry))) (now (list .entry)) (length (now (ticks .entry))) (length (now (slots .entry))))) ⌝ }
-    ensures ticks { λ r. ⌜ now (ticks .exit) ≡ lent (ticksOf (checked (call (now (job .entry))) (now (list .entry)) (length (now (ticks .entry))) (length (now (slots .entry))))) (now (ticks .entry)) ⌝ }
-    ensures slots { λ r. ⌜ now (slots .exit) ≡ lent (slotsOf (checked (call (now (job .entry))) (now (list .entry)) (length (now (ticks .entry))) (length (now (slots .entry))))) (now (slots .entry)) ⌝ }
+pub fn check_draws(
+    job: &[u8],
+    list: &[u8],
+    rounds: u32,
+    ticks: &mut [u32],
+    slots: &mut [u8],
+) -> Checked
+    ensures answer { λ r. ⌜ r .answer ≡ answerOf (checked (call (now (job .entry)) rounds) (now (list .entry)) (length (now (ticks .entry))) (length (now (slots .entry)))) ⌝ }
+    ensures draws { λ r. ⌜ r .draws ≡ length (ticksOf (checked (call (now (job .entry)) rounds) (now (list .entry)) (length (now (ticks .entry))) (length (now (slots .entry))))) ⌝ }
+    ensures ticks { λ r. ⌜ now (ticks .exit) ≡ lent (ticksOf (checked (call (now (job .entry)) rounds) (now (list .entry)) (length (now (ticks .entry))) (length (now (slots .entry))))) (now (ticks .entry)) ⌝ }
+    ensures slots { λ r. ⌜ now (slots .exit) ≡ lent (slotsOf (checked (call (now (job .entry)) rounds) (now (list .entry)) (length (now (ticks .entry))) (length (now (slots .entry))))) (now (slots .entry)) ⌝ }
 {
-    let reading = sheet::read_job(job);
-    let JobReading::Taken(shape) = reading else {
-        return refuse(sheet::job_number(reading), 0);
+    let reading = sheet::read_call(job, rounds);
+    let CallReading::Taken(shape) = reading else {
+        return refuse(sheet::call_number(reading), 0);
     };
     let head = sheet::read_list(list);
     let ListReading::Listed(count) = head else {
@@ -73,13 +79,13 @@ pub fn check_draws(job: &[u8], list: &[u8], ticks: &mut [u32], slots: &mut [u8])
     hand_out(job, list, shape, count, ticks, slots)
 }
 
-// The answer to a list for a job. Where it is accepted, the two buffers hold the tick and the slot of each draw, and what comes after
+// The answer to a list for this many rounds of a job. Where it is accepted, the two buffers hold the tick and the slot of each draw, and what comes after
 // them is as it was; where it is refused, both buffers are as they were.
-pub fn check(job: &[u8], list: &[u8], ticks: &mut [u32], slots: &mut [u8]) -> Answer
-    ensures answer { λ r. ⌜ r ≡ answerOf (checked (call (now (job .entry))) (now (list .entry)) (length (now (ticks .entry))) (length (now (slots .entry)))) ⌝ }
-    ensures ticks { λ r. ⌜ now (ticks .exit) ≡ lent (ticksOf (checked (call (now (job .entry))) (now (list .entry)) (length (now (ticks .entry))) (length (now (slots .entry))))) (now (ticks .entry)) ⌝ }
-    ensures slots { λ r. ⌜ now (slots .exit) ≡ lent (slotsOf (checked (call (now (job .entry))) (now (list .entry)) (length (now (ticks .entry))) (length (now (slots .entry))))) (now (slots .entry)) ⌝ }
+pub fn check(job: &[u8], list: &[u8], rounds: u32, ticks: &mut [u32], slots: &mut [u8]) -> Answer
+    ensures answer { λ r. ⌜ r ≡ answerOf (checked (call (now (job .entry)) rounds) (now (list .entry)) (length (now (ticks .entry))) (length (now (slots .entry)))) ⌝ }
+    ensures ticks { λ r. ⌜ now (ticks .exit) ≡ lent (ticksOf (checked (call (now (job .entry)) rounds) (now (list .entry)) (length (now (ticks .entry))) (length (now (slots .entry))))) (now (ticks .entry)) ⌝ }
+    ensures slots { λ r. ⌜ now (slots .exit) ≡ lent (slotsOf (checked (call (now (job .entry)) rounds) (now (list .entry)) (length (now (ticks .entry))) (length (now (slots .entry))))) (now (slots .entry)) ⌝ }
 {
-    let checked = check_draws(job, list, ticks, slots);
+    let checked = check_draws(job, list, rounds, ticks, slots);
     checked.answer
 }

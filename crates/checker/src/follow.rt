@@ -8,7 +8,7 @@ use display::load_refusal;
 use display::refused_load;
 use rules::EventReading;
 use rules::MaybeLoad;
-use rules::Shape;
+use rules::Unrolled;
 ghost use mathlib.Core.Path.{_≡_};
 ghost use lib.ListN.{drop};
 ghost use Rattle.rules.specs.Job.{call, jobOf};
@@ -45,13 +45,13 @@ fn asked_of(list: &[u8], count: u16, loads: u32, tick: u32) -> MaybeLoad
 pub fn follow_tick(
     job: &[u8],
     list: &[u8],
-    shape: Shape,
+    shape: Unrolled,
     count: u16,
     held: &mut [u16],
     d: Display,
 ) -> Ticked
-    requires { ⌜ MayTick (call (now job)) (now list) shape count (now held) d ⌝ }
-    ensures { λ r. ⌜ Ticks (jobOf (call (now (job .entry)))) (follow (eventsIn count (drop head-size (now (list .entry))))) (now (held .entry)) (now (held .exit)) d r ⌝ }
+    requires { ⌜ MayTick (call (now job) (shape .rounds)) (now list) shape count (now held) d ⌝ }
+    ensures { λ r. ⌜ Ticks (jobOf (call (now (job .entry)) (shape .rounds))) (follow (eventsIn count (drop head-size (now (list .entry))))) (now (held .entry)) (now (held .exit)) d r ⌝ }
 {
     let landed = land(held, d);
     let asked = asked_of(list, count, landed.loads, landed.tick);
@@ -60,6 +60,6 @@ pub fn follow_tick(
         return refused_load(landed, number);
     }
     let begun = begin(held, landed, shape.load_time, asked);
-    let symbol = sheet::draw_symbol(job, shape.slots, landed.next);
+    let symbol = sheet::draw_symbol(job, shape, landed.next);
     draw_or_wait(held, begun, asked, symbol, count as u32 <= landed.loads)
 }

@@ -7,7 +7,7 @@ use crate::rest::after_waits;
 use display::start;
 use rules::Happening;
 use rules::LAST_TICK;
-use rules::Shape;
+use rules::Unrolled;
 ghost use mathlib.Core.Path.{_≡_};
 ghost use Prim.Native.Nat.{_<_};
 ghost use lib.ListN.{length, drop};
@@ -36,14 +36,14 @@ fn note(ticks: &mut [u32], slots: &mut [u8], draw: u16, tick: u32, happening: Ha
 pub fn run_list(
     job: &[u8],
     list: &[u8],
-    shape: Shape,
+    shape: Unrolled,
     count: u16,
     held: &mut [u16],
     ticks: &mut [u32],
     slots: &mut [u8],
 ) -> Checked
-    requires { ⌜ MayRun (call (now job)) (now list) shape count (now held) (now ticks) (now slots) ⌝ }
-    ensures { λ r. ⌜ Noted (length (drawsOf (call (now (job .entry))))) (follows (jobOf (call (now (job .entry)))) (eventsIn count (drop head-size (now (list .entry))))) r (now (ticks .exit)) (now (slots .exit)) ⌝ }
+    requires { ⌜ MayRun (call (now job) (shape .rounds)) (now list) shape count (now held) (now ticks) (now slots) ⌝ }
+    ensures { λ r. ⌜ Noted (length (drawsOf (call (now (job .entry)) (shape .rounds)))) (follows (jobOf (call (now (job .entry)) (shape .rounds))) (eventsIn count (drop head-size (now (list .entry))))) r (now (ticks .exit)) (now (slots .exit)) ⌝ }
 {
     let limit = LAST_TICK + 1 + shape.load_time as u32 + shape.draws as u32;
     let mut d = start();

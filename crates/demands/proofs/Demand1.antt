@@ -7,13 +7,13 @@ use mathlib.Core.List.{List}
 use mathlib.Core.Logic.{_↔_, _⊎_, inl, inr}
 use lib.ListN.{length}
 use borrow.Author.Tests.{ltb-false}
-use Rattle.rules.specs.declared.JobReading.the-variants.{Taken}
+use Rattle.rules.specs.declared.CallReading.the-variants.{Taken}
 use Rattle.rules.specs.Order.{clear, firstOf}
-use Rattle.rules.specs.Job.{Call, shapeOf, drawsOf, jobOf}
+use Rattle.rules.specs.Job.{Call, unrolled, drawsOf, jobOf}
 use Rattle.rules.specs.LoadList.{head-size, event-size}
 use Rattle.rules.specs.Display.{State, Run, going, refused}
 use Rattle.rules.specs.Plans.{last-plan}
-use Rattle.rules.specs.Refusals.{jobTests, readJob, checked, shortPlan, planned, answerOf, lent, ticksOf, slotsOf, tickBytes, writtenBy}
+use Rattle.rules.specs.Refusals.{jobTests, callTests, readCall, checked, shortPlan, planned, answerOf, lent, ticksOf, slotsOf, tickBytes, writtenBy}
 use Rattle.plan_laws.proofs.Plans.{plan-done, planned-done}
 use Rattle.laws.proofs.Verdicts.{clear-of, clear-append, unless-going}
 use Rattle.laws.proofs.Jobs.{proper, clear-taken}
@@ -70,8 +70,8 @@ plan-never-late asked plan room e =
 -- A plan answers 0 exactly when its job is accepted, its number is one of the four and room is lent.
 pub plan-accepts : (asked : Call) (plan room : ℕ)
     → (answerOf (planned asked plan room) .number ≡ 0)
-    ↔ ((readJob (asked .job) ≡ Taken (shapeOf (asked .job))) × (plan ≤ last-plan) × (head-size + event-size * length (drawsOf asked) ≤ room))
-unfolding jobTests shortPlan
+    ↔ ((readCall asked ≡ Taken (unrolled asked)) × (plan ≤ last-plan) × (head-size + event-size * length (drawsOf asked) ≤ room))
+unfolding jobTests callTests shortPlan
 plan-accepts asked plan room = (
   λ e.
       let (s, ran) = plan-goes asked plan room e in
@@ -79,14 +79,14 @@ plan-accepts asked plan room = (
   λ h.
       let (taken, known, enough) = h in
       let d = plan-done (jobOf asked) (proper asked _ taken) plan in
-      rw (planned-done asked (shapeOf (asked .job)) plan room taken known enough d),
+      rw (planned-done asked (unrolled asked) plan room taken known enough d),
 )
   where
     by-tests : firstOf (lateTests asked plan room) ≡ clear
-        → (readJob (asked .job) ≡ Taken (shapeOf (asked .job))) × (plan ≤ last-plan) × (head-size + event-size * length (drawsOf asked) ≤ room)
+        → (readCall asked ≡ Taken (unrolled asked)) × (plan ≤ last-plan) × (head-size + event-size * length (drawsOf asked) ≤ room)
     by-tests past =
         let fails = clear-of (lateTests asked plan room) past in
-        (clear-taken (asked .job) (clear-append (jobTests (asked .job)) _ past .0), ltb-false _ _ (fails 6), ltb-false _ _ (fails 7))
+        (clear-taken asked (clear-append (callTests asked) _ past .0), ltb-false _ _ (fails 6), ltb-false _ _ (fails 7))
 
 -- ---- A full answer, or a refusal and nothing else
 

@@ -6,11 +6,11 @@ use mathlib.Core.List.{List}
 use mathlib.Core.Logic.{_↔_}
 use lib.ListN.{length}
 use Rattle.rules.specs.declared.Answer.{Answer}
-use Rattle.rules.specs.declared.JobReading.the-variants.{Taken}
-use Rattle.rules.specs.Job.{Call, shapeOf, drawsOf}
+use Rattle.rules.specs.declared.CallReading.the-variants.{Taken}
+use Rattle.rules.specs.Job.{Call, unrolled, drawsOf}
 use Rattle.rules.specs.LoadList.{head-size, event-size}
 use Rattle.rules.specs.Plans.{last-plan}
-use Rattle.rules.specs.Refusals.{readJob, checked, planned, answerOf, ticksOf, slotsOf, writtenBy}
+use Rattle.rules.specs.Refusals.{readCall, checked, planned, answerOf, ticksOf, slotsOf, writtenBy}
 use Rattle.plan_laws.proofs.Plans.{plan-checked}
 use Rattle.demands.specs.Fair.{Right}
 use Rattle.demands.proofs.Exactly.{accepted-is-right, right-is-accepted, right-is-reported}
@@ -47,11 +47,11 @@ pub record Checks (asked : Call) (plan room ticks slots : ℕ) : Type 0 where
 
 -- Of a job that is accepted, each of the four plans with room lent answers 0, and its list, checked with room lent, is accepted with the
 -- same elapsed, waits, loads and longest wait and the same draws.
-pub plans-accepted : (asked : Call) (plan room ticks slots : ℕ) → readJob (asked .job) ≡ Taken (shapeOf (asked .job)) → plan ≤ last-plan
+pub plans-accepted : (asked : Call) (plan room ticks slots : ℕ) → readCall asked ≡ Taken (unrolled asked) → plan ≤ last-plan
     → head-size + event-size * length (drawsOf asked) ≤ room → length (drawsOf asked) ≤ ticks → length (drawsOf asked) ≤ slots
     → Checks asked plan room ticks slots
 plans-accepted asked plan room ticks slots taken known enough tick-room slot-room =
-    let (s, ran, again) = plan-checked asked (shapeOf (asked .job)) plan room ticks slots taken known enough tick-room slot-room in
+    let (s, ran, again) = plan-checked asked (unrolled asked) plan room ticks slots taken known enough tick-room slot-room in
     record {
       plan-accepted = rw ran;
       list-accepted = rw again;

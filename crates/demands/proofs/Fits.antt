@@ -4,7 +4,7 @@ use native.Mathlib.Omega.{arith}
 use mathlib.Core.Path.{_≡_, refl, _∙_}
 use mathlib.Core.List.{List, [], _∷_, map}
 use lib.ListN.{length, length-map}
-use Rattle.rules.specs.Job.{Call, shapeOf, drawsOf, jobOf}
+use Rattle.rules.specs.Job.{Call, unrolled, drawsOf, jobOf}
 use Rattle.rules.specs.LoadList.{head-size, event-size}
 use Rattle.rules.specs.Display.{Run, going, refused}
 use Rattle.rules.specs.Plans.{ruleOf}
@@ -25,7 +25,7 @@ plan-size asked plan room accepted =
     let (taken, known, enough) = plan-accepts asked plan room .0 accepted in
     let d : Done (jobOf asked) (ruleOf (jobOf asked) plan) Any = plan-done (jobOf asked) (proper asked _ taken) plan in
     let begun : length (map eventOf (d .last .begun)) ≡ d .last .loads = length-map (d .last .begun) eventOf ∙ d .listed in
-    rw (planned-done asked (shapeOf (asked .job)) plan room taken known enough d)
+    rw (planned-done asked (unrolled asked) plan room taken known enough d)
     (omega (arith, length-list (map eventOf (d .last .begun))), d .few)
 
 -- What a plan writes fits into the room.

@@ -31,3 +31,4 @@ pub mod TextReads
 pub mod TextRows
 pub mod TextFits
 pub mod TextDemands
+pub mod OneRound

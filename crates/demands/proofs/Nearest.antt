@@ -5,7 +5,7 @@ use native.Mathlib.Omega.{arith}
 use mathlib.Core.Path.{_≡_, refl}
 use mathlib.Core.List.{List, [], _∷_, map}
 use Rattle.rules.specs.Basics.{place}
-use Rattle.rules.specs.Job.{Call, call, symbols, jobOf}
+use Rattle.rules.specs.Job.{Call, call, symbols, timesOver, jobOf}
 use Rattle.rules.specs.LoadList.{event, eventsIn, eventsBytes, listBytes}
 use Rattle.rules.specs.Display.{Run, Rule, run, tick, beginning, happened}
 use Rattle.rules.specs.Plans.{rank, ranksFrom, greatest, ahead, on-demand, opt, conservative, runPlan, begunIn}
@@ -29,7 +29,7 @@ nearestOpt = on-demand (λ s. nearest (ahead s) (s .slots))
 
 -- Two slots, four ticks to a load, and two symbols drawn by turns, of which one is in a slot.
 abbrev sheet : Call
-sheet = call (jobBytes 4 (1 ∷ 2 ∷ []) (3 ∷ 1 ∷ 3 ∷ 1 ∷ []))
+sheet = call (jobBytes 4 (1 ∷ 2 ∷ []) (3 ∷ 1 ∷ 3 ∷ 1 ∷ [])) 1
 
 -- Conservative, made from some opt.
 abbrev planOf : Rule → Run
@@ -41,18 +41,18 @@ listed = checked sheet (listBytes (event 0 1 3 ∷ [])) 4 4
 
 -- The list is accepted, with eight ticks and one load, and from the furthest choice conservative is as good.
 one-load : (numbers (answerOf listed) ≡ accepts 8 4 1 4) × (numbers (answerOf (planOf (opt (jobOf sheet)))) ≡ accepts 8 4 1 4)
-unfolding checked symbolBytes run tick beginning happened place symbols doubled ranksFrom greatest eventsIn eventsBytes due firstBadTick
+unfolding checked symbolBytes run tick beginning happened place symbols timesOver doubled ranksFrom greatest eventsIn eventsBytes due firstBadTick
 one-load = (refl, refl)
 
 -- From the nearest choice it loads at every draw.
 four-loads : numbers (answerOf (planOf nearestOpt)) ≡ accepts 20 16 4 4
-unfolding least symbolBytes run tick beginning happened place symbols
+unfolding least symbolBytes run tick beginning happened place symbols timesOver
 four-loads = refl
 
 -- So neither half of demand 3 holds of it: it makes four times the list's loads, and takes more than twice the list's ticks.
 nearest-is-worse : (answerOf (planOf nearestOpt) .loads ≤ answerOf listed .loads → ⊥)
     × (answerOf (planOf nearestOpt) .elapsed ≤ 2 * answerOf listed .elapsed → ⊥)
-unfolding least checked symbolBytes run tick beginning happened place symbols doubled eventsIn eventsBytes due firstBadTick
+unfolding least checked symbolBytes run tick beginning happened place symbols timesOver doubled eventsIn eventsBytes due firstBadTick
 nearest-is-worse = (
   λ h. let more : 4 ≤ 1 = h in omega arith,
   λ h. let longer : 20 ≤ 16 = h in omega arith,

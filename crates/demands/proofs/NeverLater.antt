@@ -5,12 +5,12 @@ use mathlib.Core.Path.{_≡_, refl, sym, ap, _∙_}
 use mathlib.Core.List.{List, [], _∷_, map}
 use lib.ListN.{length, getD, length-map}
 use Rattle.rules.specs.Basics.{place}
-use Rattle.rules.specs.Job.{Job, Call, call, symbols, shapeOf, jobOf}
+use Rattle.rules.specs.Job.{Job, Call, call, symbols, timesOver, unrolled, jobOf}
 use Rattle.rules.specs.LoadList.{Event, most-events}
 use Rattle.rules.specs.Order.{Verdict, firstOf}
 use Rattle.rules.specs.Display.{State, Rule, Loaded, loaded, going, unless, beginning, happened, tick, run}
 use Rattle.rules.specs.Plans.{ranksFrom, greatest, furthest, ahead, opt, runPlan, begunIn, conservative}
-use Rattle.rules.specs.Refusals.{doubled, jobTests, shortPlan, inTime, planned, answerOf, eventOf}
+use Rattle.rules.specs.Refusals.{doubled, jobTests, badRounds, callTests, shortPlan, inTime, planned, answerOf, eventOf}
 use Rattle.rules.specs.Worked.{symbolBytes, numbers, accepts}
 use Rattle.rules.specs.Telling.{job-freed}
 use Rattle.laws.proofs.Jobs.{Proper, proper}
@@ -111,9 +111,9 @@ conservative-never-later asked room plan-accepted =
     let good : Proper job = proper asked _ taken in
     let new = new-made job good in
     let old = old-made job good in
-    let is : planned asked 1 room ≡ going (new .last) = planned-done asked (shapeOf (asked .job)) 1 room taken known enough new in
+    let is : planned asked 1 room ≡ going (new .last) = planned-done asked (unrolled asked) 1 room taken known enough new in
     let was : oldPlanned asked room ≡ going (old .last) =
-    ap (λ (v : Verdict). unless v (inTime (runPlan job (oldConservative job)))) (plan-clear asked (shapeOf (asked .job)) 1 room taken known enough)
+    ap (λ (v : Verdict). unless v (inTime (runPlan job (oldConservative job)))) (plan-clear asked (unrolled asked) 1 room taken known enough)
     ∙ rw (old .ran, old .over) in
     let far : AsFar (new .last) (old .last) = new-sooner job good in
     let same : new .last .loads ≡ old .last .loads = same-loads job good in
@@ -128,7 +128,8 @@ conservative-never-later asked room plan-accepted =
     })
 
 -- The two are not the same: on the sheet of the request conservative is done after 4 ticks, and by the old rule after 5.
-old-is-later : (numbers (answerOf (planned (call job-freed) 1 28)) ≡ accepts 4 1 1 1)
-    × (numbers (answerOf (oldPlanned (call job-freed) 28)) ≡ accepts 5 2 1 2)
-unfolding planned firstOf jobTests shortPlan symbolBytes run tick beginning happened place symbols doubled ranksFrom greatest
+old-is-later : (numbers (answerOf (planned (call job-freed 1) 1 28)) ≡ accepts 4 1 1 1)
+    × (numbers (answerOf (oldPlanned (call job-freed 1) 28)) ≡ accepts 5 2 1 2)
+unfolding planned firstOf jobTests callTests badRounds shortPlan symbolBytes run tick beginning happened place symbols timesOver doubled ranksFrom
+    greatest
 old-is-later = (refl, refl)

@@ -13,12 +13,12 @@ use Rattle.rules.specs.declared.MaybeLoad.{MaybeLoad}
 use Rattle.rules.specs.declared.MaybeLoad.the-variants.{Load, NoLoad}
 use Rattle.rules.specs.declared.Loading.{Loading}
 use Rattle.rules.specs.declared.Loading.the-variants.{Idle, Under}
-use Rattle.rules.specs.declared.JobReading.the-variants.{Taken}
-use Rattle.rules.specs.Job.{Job, Call, free, shapeOf, jobOf}
+use Rattle.rules.specs.declared.CallReading.the-variants.{Taken}
+use Rattle.rules.specs.Job.{Job, Call, free, unrolled, jobOf}
 use Rattle.rules.specs.LoadList.{last-tick}
 use Rattle.rules.specs.Display.{State, Rule, Loaded, loaded, going, start, land, idle, finished, run}
 use Rattle.rules.specs.Plans.{opt, runPlan, begunIn, ruleOf}
-use Rattle.rules.specs.Refusals.{readJob}
+use Rattle.rules.specs.Refusals.{readCall}
 use Rattle.laws.proofs.Cases.{by-test}
 use Rattle.laws.proofs.Jobs.{Proper, proper}
 use Rattle.laws.proofs.Rows.{map-snoc}
@@ -151,7 +151,7 @@ module _ (job : Job) (good : Proper job) where
 
 -- With equally many loads begun and none under way, conservative and opt have the same in each slot. So the symbol that goes out with a load
 -- of conservative is the one that goes out with that load of opt.
-pub same-outgoing : (what : Call) → readJob (what .job) ≡ Taken (shapeOf (what .job)) → (t u : ℕ) (s o : State)
+pub same-outgoing : (what : Call) → readCall what ≡ Taken (unrolled what) → (t u : ℕ) (s o : State)
     → run (jobOf what) (ruleOf (jobOf what) 1) t (start (jobOf what)) ≡ going s
     → run (jobOf what) (ruleOf (jobOf what) 2) u (start (jobOf what)) ≡ going o
     → s .loads ≡ o .loads

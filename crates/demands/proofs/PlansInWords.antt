@@ -8,13 +8,13 @@ use mathlib.Core.List.{List, [], _∷_, map}
 use mathlib.Core.Logic.{_↔_}
 use lib.ListN.{length, length-map}
 use lib.Seq.{take-all}
-use Rattle.rules.specs.declared.JobReading.the-variants.{Taken}
+use Rattle.rules.specs.declared.CallReading.the-variants.{Taken}
 use Rattle.rules.specs.declared.MaybeLoad.{MaybeLoad}
-use Rattle.rules.specs.Job.{Job, Call, shapeOf, jobOf}
+use Rattle.rules.specs.Job.{Job, Call, unrolled, jobOf}
 use Rattle.rules.specs.LoadList.{Event, most-events, last-tick, eventsOf, listBytes}
 use Rattle.rules.specs.Display.{State, Rule, going, start, land, asked, finished, run}
 use Rattle.rules.specs.Plans.{ruleOf}
-use Rattle.rules.specs.Refusals.{readJob, badList, follow, mostTicks, checked, planned, answerOf, eventOf, writtenBy}
+use Rattle.rules.specs.Refusals.{readCall, badList, follow, mostTicks, checked, planned, answerOf, eventOf, writtenBy}
 use Rattle.laws.proofs.Jobs.{Proper, proper}
 use Rattle.laws.proofs.Along.{along}
 use Rattle.laws.proofs.Checks.{Accepted, accepted}
@@ -40,7 +40,7 @@ plan-agrees job proper (suc (suc zero)) = opt-agrees job proper
 plan-agrees job proper (suc (suc (suc p))) = lru-agrees job proper
 
 -- At every tick of a plan's run, what begins by the words is what the plan asks for, and nothing else.
-pub plan-tick-in-words : (what : Call) (plan : ℕ) → readJob (what .job) ≡ Taken (shapeOf (what .job))
+pub plan-tick-in-words : (what : Call) (plan : ℕ) → readCall what ≡ Taken (unrolled what)
     → (t : ℕ) (s : State) → run (jobOf what) (ruleOf (jobOf what) plan) t (start (jobOf what)) ≡ going s → 0 < length (s .rest)
     → (b : MaybeLoad) → Begins (PlanWords (jobOf what) plan (land s)) b ↔ (b ≡ asked (ruleOf (jobOf what) plan) s)
 plan-tick-in-words what plan taken t s ran more b =
@@ -106,7 +106,7 @@ accepted-plan what plan room plan-accepted =
     let (taken, known, enough) = plan-accepts what plan room .0 plan-accepted in
     let good : Proper (jobOf what) = proper what _ taken in
     let d : Done (jobOf what) (ruleOf (jobOf what) plan) Any = plan-done (jobOf what) good plan in
-    let is : planned what plan room ≡ going (d .last) = planned-done what (shapeOf (what .job)) plan room taken known enough d in
+    let is : planned what plan room ≡ going (d .last) = planned-done what (unrolled what) plan room taken known enough d in
     let few : length (map eventOf (d .last .begun)) ≤ most-events =
     omega (arith, length-map (d .last .begun) eventOf, d .listed, d .few, good .few-draws) in
     record { good = good; is = is; events = rw is (read-back (map eventOf (d .last .begun)) few .1); bytes = rw is }

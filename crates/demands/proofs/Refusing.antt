@@ -8,13 +8,13 @@ use mathlib.Core.Logic.{_⊎_, inl, inr}
 use lib.ListN.{length}
 use lib.Dec.{ltb}
 use borrow.Author.Tests.{ltb-true, lt-ltb}
-use Rattle.rules.specs.declared.JobReading.the-variants.{Taken}
+use Rattle.rules.specs.declared.CallReading.the-variants.{Taken}
 use Rattle.rules.specs.Order.{Verdict, clear, met, firstOf}
-use Rattle.rules.specs.Job.{Call, Job, shapeOf, jobOf}
+use Rattle.rules.specs.Job.{Call, Job, unrolled, jobOf}
 use Rattle.rules.specs.LoadList.{Event, eventsOf}
 use Rattle.rules.specs.Display.{State, Run, going, refused, unless, start, finished, run}
 use Rattle.rules.specs.Plans.{ruleOf, runPlan}
-use Rattle.rules.specs.Refusals.{jobTests, readJob, follow, mostTicks, closing, follows, checkTests, checked, planned, answerOf}
+use Rattle.rules.specs.Refusals.{jobTests, callTests, readCall, follow, mostTicks, closing, follows, checkTests, checked, planned, answerOf}
 use Rattle.laws.proofs.Cases.{by-test}
 use Rattle.laws.proofs.Verdicts.{clear-of, never-met, GivenBy, given-exactly, clear-append}
 use Rattle.laws.proofs.Jobs.{Proper, proper, clear-taken}
@@ -48,7 +48,7 @@ answers-so r n d e = rw e (refl, refl)
 
 -- A plan is refused only as its tests come to it: past them all, that of row 15 too, its run is not refused.
 pub plan-found : (asked : Call) (plan room n d : ℕ) → planned asked plan room ≡ refused n d → firstOf (lateTests asked plan room) ≡ met n d
-unfolding jobTests
+unfolding jobTests callTests
 plan-found asked plan room n d e = by-verdict (firstOf (lateTests asked plan room)) refl (sym (plan-is-tests asked plan room) ∙ e)
   where
     by-verdict : (v : Verdict) → firstOf (lateTests asked plan room) ≡ v
@@ -59,27 +59,27 @@ plan-found asked plan room n d e = by-verdict (firstOf (lateTests asked plan roo
         held-and-failed true refl (rw stops at in-limit)
 
 -- A plan of a job that is taken is over in time.
-in-limit : (asked : Call) (plan : ℕ) → readJob (asked .job) ≡ Taken (shapeOf (asked .job))
+in-limit : (asked : Call) (plan : ℕ) → readCall asked ≡ Taken (unrolled asked)
     → late (runPlan (jobOf asked) (ruleOf (jobOf asked) plan)) ≡ false
 in-limit asked plan taken =
     let d : Done (jobOf asked) (ruleOf (jobOf asked) plan) Any = plan-done (jobOf asked) (proper asked _ taken) plan in rw (d .ran, d .over)
 
 -- So the test of row 15 is never the first to hold.
 pub never-late : (asked : Call) (plan room d : ℕ) → firstOf (lateTests asked plan room) ≡ met 15 d → ⊥
-unfolding jobTests
+unfolding jobTests callTests
 never-late asked plan room d e =
     let g : GivenBy (lateTests asked plan room) 15 d = given-exactly (lateTests asked plan room) 15 d refl .0 e in
-    let taken : readJob (asked .job) ≡ Taken (shapeOf (asked .job)) = clear-taken (asked .job) (clear-append (jobTests (asked .job)) _ (g .first) .0) in
+    let taken : readCall asked ≡ Taken (unrolled asked) = clear-taken asked (clear-append (callTests asked) _ (g .first) .0) in
     held-and-failed _ (g .holds) (in-limit asked plan taken)
 
 -- ---- A check
 
 -- A check whose tests before time begins all fail: its job is taken, and its events are in order.
 clear-so : (asked : Call) (list : List ℕ) (ticks slots : ℕ) → firstOf (checkTests asked list ticks slots) ≡ clear
-    → (readJob (asked .job) ≡ Taken (shapeOf (asked .job))) × Ruly 0 (eventsOf list)
-unfolding jobTests
+    → (readCall asked ≡ Taken (unrolled asked)) × Ruly 0 (eventsOf list)
+unfolding jobTests callTests
 clear-so asked list ticks slots e =
-    (clear-taken (asked .job) (clear-append (jobTests (asked .job)) _ e .0), in-order (eventsOf list) (clear-of (checkTests asked list ticks slots) e 9))
+    (clear-taken asked (clear-append (callTests asked) _ e .0), in-order (eventsOf list) (clear-of (checkTests asked list ticks slots) e 9))
 
 -- What time meets along a list, of a job that is taken and with the events in order.
 module _ (job : Job) (events : List Event) (good : Proper job) (ordered : Ruly 0 events) where
@@ -169,7 +169,7 @@ refuses-number job events s n d (endless quiet unheld left) z = omega arith
 
 -- and no row of the whole table has.
 check-number : (asked : Call) (list : List ℕ) (ticks slots n d : ℕ) → Given asked list ticks slots n d → n ≡ 0 → ⊥
-unfolding jobTests
+unfolding jobTests callTests
 check-number asked list ticks slots n d (at-once g) z =
     never-met (checkTests asked list ticks slots) 0 d refl (gives-met _ _ n d (check-words asked list ticks slots) g ∙ ap (λ (m : ℕ). met m d) z)
 check-number asked list ticks slots n d (in-time q m) z = refuses-number (jobOf asked) (eventsOf list) (m .state) n d (m .refuses) z
@@ -182,7 +182,7 @@ goes (refused n d) refusal e = absurd (refusal n d refl e)
 
 -- No test of a plan has the number 0.
 no-zero : (asked : Call) (plan room d : ℕ) → firstOf (lateTests asked plan room) ≡ met 0 d → ⊥
-unfolding jobTests
+unfolding jobTests callTests
 no-zero asked plan room d e = never-met (lateTests asked plan room) 0 d refl e
 
 -- A plan that answers 0 went to its last draw.

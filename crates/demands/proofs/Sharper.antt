@@ -8,13 +8,13 @@ use lib.ListN.{length}
 use lib.Seq.{take-all}
 use Rattle.rules.specs.declared.Cause.{Cause}
 use Rattle.rules.specs.declared.Happening.the-variants.{Draw, Wait}
-use Rattle.rules.specs.declared.JobReading.the-variants.{Taken}
-use Rattle.rules.specs.Job.{Call, Job, shapeOf, drawsOf, jobOf}
+use Rattle.rules.specs.declared.CallReading.the-variants.{Taken}
+use Rattle.rules.specs.Job.{Call, Job, unrolled, drawsOf, jobOf}
 use Rattle.rules.specs.LoadList.{head-size, event-size, last-tick, eventsOf}
 use Rattle.rules.specs.Basics.{place, stands}
 use Rattle.rules.specs.Display.{State, going, refused, start, land, idle, awaited, beginning, happeningOf, happened, asked, tick, finished, run}
 use Rattle.rules.specs.Plans.{ruleOf}
-use Rattle.rules.specs.Refusals.{readJob, follow, mostTicks, eventOf, checked, planned, answerOf}
+use Rattle.rules.specs.Refusals.{readCall, follow, mostTicks, eventOf, checked, planned, answerOf}
 use Rattle.laws.proofs.Cases.{by-test}
 use Rattle.laws.proofs.Jobs.{Proper, proper}
 use Rattle.laws.proofs.Along.{along}
@@ -45,19 +45,19 @@ opt-loads-ended asked list ticks slots room list-accepted enough =
     let front = along (jobOf asked) (eventsOf list) good (a .ordered) (mostTicks (jobOf asked)) s (a .ran) .so-far in
     let whole : map eventOf (s .begun) ≡ eventsOf list = front ∙ take-all (s .loads) (eventsOf list) (omega (arith, a .all-begun)) in
     let ended = ended-but-one (jobOf asked) (follow (eventsOf list)) good (mostTicks (jobOf asked)) s (a .ran) in
-    rw (planned-done asked (shapeOf (asked .job)) 2 room (a .job-taken) (omega arith) enough (opt-done (jobOf asked) good), followed)
+    rw (planned-done asked (unrolled asked) 2 room (a .job-taken) (omega arith) enough (opt-done (jobOf asked) good), followed)
     (omega (arith, same, better .loads-ended, rw whole at ended))
 
 -- Of every job that is accepted, with room lent, conservative is never later than opt, with as many loads.
-pub conservative-before-opt : (asked : Call) (room : ℕ) → readJob (asked .job) ≡ Taken (shapeOf (asked .job))
+pub conservative-before-opt : (asked : Call) (room : ℕ) → readCall asked ≡ Taken (unrolled asked)
     → head-size + event-size * length (drawsOf asked) ≤ room
     → (answerOf (planned asked 1 room) .elapsed ≤ answerOf (planned asked 2 room) .elapsed)
     × (answerOf (planned asked 1 room) .loads ≡ answerOf (planned asked 2 room) .loads)
 conservative-before-opt asked room taken enough =
     let good : Proper (jobOf asked) = proper asked _ taken in
     rw (
-      planned-done asked (shapeOf (asked .job)) 1 room taken (omega arith) enough (conservative-done (jobOf asked) good),
-      planned-done asked (shapeOf (asked .job)) 2 room taken (omega arith) enough (opt-done (jobOf asked) good),
+      planned-done asked (unrolled asked) 1 room taken (omega arith) enough (conservative-done (jobOf asked) good),
+      planned-done asked (unrolled asked) 2 room taken (omega arith) enough (opt-done (jobOf asked) good),
     ) (conservative-no-later (jobOf asked) good)
 
 -- A plan that is accepted makes at most one load to each draw, and waits at most F ticks for each load.
@@ -67,7 +67,7 @@ pub plan-loads-few : (asked : Call) (plan room : ℕ) → answerOf (planned aske
 plan-loads-few asked plan room plan-accepted =
     let (taken, known, enough) = plan-accepts asked plan room .0 plan-accepted in
     let d : Done (jobOf asked) (ruleOf (jobOf asked) plan) Any = plan-done (jobOf asked) (proper asked _ taken) plan in
-    rw (planned-done asked (shapeOf (asked .job)) plan room taken known enough d) (d .few, d .brief)
+    rw (planned-done asked (unrolled asked) plan room taken known enough d) (d .few, d .brief)
 
 -- A plan never says that it would ask again later.
 always-done : (job : Job) (plan : ℕ) (s : State) → ruleOf job plan .done s ≡ true
@@ -87,7 +87,7 @@ wait-stops job plan s after c began waits quiet =
     (λ t. rw (began, t, always-done job plan after, endless-wait (after .loading) (awaited after) quiet))
 
 -- At every tick of a plan's run that is a wait, a load is under way, one begun in that tick counted in.
-pub waits-under-way : (what : Call) (plan : ℕ) → readJob (what .job) ≡ Taken (shapeOf (what .job))
+pub waits-under-way : (what : Call) (plan : ℕ) → readCall what ≡ Taken (unrolled what)
     → (t : ℕ) (s after : State) (c : Cause)
     → run (jobOf what) (ruleOf (jobOf what) plan) t (start (jobOf what)) ≡ going s
     → finished (s .rest) ≡ false

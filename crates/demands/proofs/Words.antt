@@ -15,15 +15,16 @@ use Rattle.rules.specs.Job.{Call, free, most-slots, most-load-time, most-draws,
 use Rattle.rules.specs.LoadList.{Event, event, most-events, last-tick, head-size, event-size, countOf, eventsOf}
 use Rattle.rules.specs.Display.{Run, going, refused, finished}
 use Rattle.rules.specs.Plans.{ruleOf, runPlan}
-use Rattle.rules.specs.Refusals.{badJobLength, badLimits, doubled, badSymbols, jobTests, badList, firstBadTick, shortCheck, checkTests, shortPlan}
+use Rattle.rules.specs.Refusals.{badJobLength, badLimits, doubled, badSymbols, jobTests, badRounds, callTests, badList, firstBadTick, shortCheck}
+use Rattle.rules.specs.Refusals.{checkTests, shortPlan}
 use Rattle.laws.proofs.Cases.{by-test, neither}
 use Rattle.laws.proofs.Search.{place-holds, present}
 use Rattle.plan_laws.proofs.Asking.{both-true}
 use Rattle.demands.specs.Fair.{eventTick, eventAt}
 use Rattle.demands.specs.Table as table
 use Rattle.demands.specs.Table.{Row, JobLengthWrong, OutsideLimits, no-slot, many-slots, no-time, long-time, many-draws, SymbolsWrong, twice}
-use Rattle.demands.specs.Table.{free-drawn, jobRows, Late, planRows, ListWrong, wrong-version, many-events, wrong-size, PlacesShort, few-ticks}
-use Rattle.demands.specs.Table.{few-slots, OutOfOrder, over-limit, not-above, FirstOutOfOrder, checkRows}
+use Rattle.demands.specs.Table.{free-drawn, RoundsWrong, no-round, too-many, callRows, Late, planRows, ListWrong, wrong-version, many-events, wrong-size}
+use Rattle.demands.specs.Table.{PlacesShort, few-ticks, few-slots, OutOfOrder, over-limit, not-above, FirstOutOfOrder, checkRows}
 use Rattle.demands.proofs.Stops.{held-and-failed}
 use Rattle.demands.proofs.Tables.{Says, Agree, end, more, late, lateTests}
 
@@ -196,6 +197,17 @@ list-words list = plainly (badList list) to from
         (λ t. many-events (ltb-true most-events (countOf list) t)))
         (λ t. wrong-size (unlike (number32 list 0) (3 + event-size * countOf list) t))
 
+-- Row 17.
+rounds-words : (rounds draws : ℕ) → Says (λ d. (d ≡ 0) × RoundsWrong rounds draws) 0 (ltb rounds 1 || ltb most-draws (rounds * draws))
+rounds-words rounds draws = plainly (ltb rounds 1 || ltb most-draws (rounds * draws)) to from
+  where
+    to : RoundsWrong rounds draws → (ltb rounds 1 || ltb most-draws (rounds * draws)) ≡ false → ⊥
+    to (no-round h) e = held-and-failed _ (lt-ltb rounds 1 h) (neither _ _ e .0)
+    to (too-many h) e = held-and-failed _ (lt-ltb most-draws (rounds * draws) h) (neither (ltb rounds 1) _ e .1)
+
+    from : (ltb rounds 1 || ltb most-draws (rounds * draws)) ≡ true → RoundsWrong rounds draws
+    from e = either _ _ e (λ t. no-round (ltb-true rounds 1 t)) (λ t. too-many (ltb-true most-draws (rounds * draws) t))
+
 -- Row 7 of a check.
 places-words : (draws ticks slots : ℕ) → Says (λ d. (d ≡ 0) × PlacesShort draws ticks slots) 0 (ltb ticks draws || ltb slots draws)
 places-words draws ticks slots = plainly (ltb ticks draws || ltb slots draws) to from
@@ -311,21 +323,22 @@ unlike-words : (a b : ℕ) → Says (λ d. (d ≡ 0) × (a ≡ b → ⊥)) 0 (no
 unlike-words a b = plainly (not (eqb a b)) (λ h. held-and-failed (not (eqb a b)) (is-unlike a b h)) (unlike a b)
 
 module _ (asked : Call) where
-  -- Rows 1 to 5, and what comes after them.
-  with-job : (rows : List Row) (tests : List Test) → Agree rows tests → Agree (jobRows (asked .job) ++ rows) (jobTests (asked .job) ++ tests)
-  unfolding jobTests
-  with-job rows tests a =
+  -- Rows 1 to 5 and 17, and what comes after them.
+  with-call : (rows : List Row) (tests : List Test) → Agree rows tests → Agree (callRows asked ++ rows) (callTests asked ++ tests)
+  unfolding jobTests callTests badRounds
+  with-call rows tests a =
       more (length-words (asked .job))
       (more (unlike-words (getD (asked .job) 4 0) 1)
       (more (limits-words (shapeOf (asked .job)))
       (more (unlike-words (number32 (asked .job) 0) (6 + 2 * shapeOf (asked .job) .slots + 2 * shapeOf (asked .job) .draws))
-      (more (symbols-words (startingSymbols (asked .job)) (drawnSymbols (asked .job))) a))))
+      (more (symbols-words (startingSymbols (asked .job)) (drawnSymbols (asked .job)))
+      (more (rounds-words (asked .rounds) (shapeOf (asked .job) .draws)) a)))))
 
   -- The table for a plan is the tests of the definition.
   pub plan-words : (plan room : ℕ) → Agree (planRows asked plan room) (lateTests asked plan room)
-  unfolding jobTests shortPlan
+  unfolding jobTests callTests shortPlan
   plan-words plan room =
-      with-job _ _
+      with-call _ _
       (more (lower-words 3 plan)
       (more (lower-words room (head-size + event-size * length (drawsOf asked)))
       (more (late-words (runPlan (jobOf asked) (ruleOf (jobOf asked) plan))) end)))
@@ -334,7 +347,7 @@ module _ (asked : Call) where
   pub check-words : (list : List ℕ) (ticks slots : ℕ) → Agree (checkRows asked list ticks slots) (checkTests asked list ticks slots)
   unfolding shortCheck
   check-words list ticks slots =
-      with-job _ _
+      with-call _ _
       (more (list-words list)
       (more (places-words (length (drawsOf asked)) ticks slots)
       (more (order-words (eventsOf list)) end)))

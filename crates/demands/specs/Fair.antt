@@ -4,11 +4,11 @@ use mathlib.Core.Path.{_≡_}
 use mathlib.Core.List.{List}
 use lib.ListN.{length, getD, take}
 use Rattle.rules.specs.declared.Answer.{Answer}
-use Rattle.rules.specs.declared.JobReading.the-variants.{Taken}
+use Rattle.rules.specs.declared.CallReading.the-variants.{Taken}
 use Rattle.rules.specs.declared.ListReading.the-variants.{Listed}
-use Rattle.rules.specs.Job.{Call, Job, free, shapeOf, drawsOf, jobOf}
+use Rattle.rules.specs.Job.{Call, Job, free, unrolled, drawsOf, jobOf}
 use Rattle.rules.specs.LoadList.{Event, event, countOf, eventsOf}
-use Rattle.rules.specs.Refusals.{readJob, readList, firstBadTick}
+use Rattle.rules.specs.Refusals.{readCall, readList, firstBadTick}
 use Rattle.demands.specs.Held.{held, Sheet}
 
 -- The tick, the slot and the symbol of event i.
@@ -40,7 +40,7 @@ pub record MayBegin (job : Job) (events : List Event) (i end : ℕ) : Type 0 whe
 -- A sheet is right for the bytes of a job and a list and for the places lent: job and list can be read, the places suffice, the events
 -- are in order, each may begin, and each draw is made as it must be.
 pub record Right (asked : Call) (list : List ℕ) (tick-places slot-places : ℕ) (ticks slots : List ℕ) (answer : Answer) : Type 0 where
-  pub job-taken : readJob (asked .job) ≡ Taken (shapeOf (asked .job))
+  pub job-taken : readCall asked ≡ Taken (unrolled asked)
   pub list-read : readList list ≡ Listed (countOf list)
   pub tick-room : length (drawsOf asked) ≤ tick-places
   pub slot-room : length (drawsOf asked) ≤ slot-places

@@ -6,3 +6,4 @@ pub mod TwoRocks
 pub mod InWords
 pub mod OldRule
 pub mod TextWords
+pub mod OneRound

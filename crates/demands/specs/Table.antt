@@ -1,5 +1,6 @@
 -- The table of refusals in its words, row by row and in its order, for a plan and for a check: which number is given, and with which detail.
--- To be held beside "Refusal numbers" of document 01. Rows 1 to 9 speak of bytes; rows 10 to 14 speak of the display as it runs along the list.
+-- To be held beside "Refusal numbers" of document 01; row 17 is from document 02, Five. Rows 1 to 9 speak of bytes; rows 10 to 14 speak of the
+-- display as it runs along the list.
 use Prim.Native.Nat.{ℕ, zero, suc, _+_, _*_, _-_, _<_, _≤_}
 use mathlib.Core.Path.{_≡_}
 use mathlib.Core.Bool.{true, false}
@@ -73,17 +74,27 @@ jobRows job =
     ∷ plain 5 (SymbolsWrong (startingSymbols job) (drawnSymbols job))
     ∷ []
 
+-- ---- Row 17: the rounds
+
+-- There is no round, or r times n is over the most draws.
+pub data RoundsWrong (rounds draws : ℕ) : Type 0 where
+  no-round : rounds < 1 → RoundsWrong rounds draws
+  too-many : most-draws < rounds * draws → RoundsWrong rounds draws
+
+-- The order for what a call asks about: 1 to 5, then 17.
+abbrev pub callRows : Call → List Row
+callRows asked = jobRows (asked .job) ++ (plain 17 (RoundsWrong (asked .rounds) (shapeOf (asked .job) .draws)) ∷ [])
+
 -- ---- Rows 6, 7 and 15: a plan
 
 -- 15. A plan's run does not come to the end of its draws within the ticks that a list can name.
 abbrev pub Late : Run → Type 0
 Late r = (s : State) → r ≡ going s → finished (s .rest) ≡ true → ⊥
 
--- The order for a plan: 1 to 5, then 6, a number above 3, then 7, less room than 7 + 7n bytes, then 15.
+-- The order for a plan: 1 to 5, 17, then 6, a number above 3, then 7, less room than 7 + 7rn bytes, then 15.
 abbrev pub planRows : Call → ℕ → ℕ → List Row
 planRows asked plan room =
-    jobRows (asked .job)
-    ++ (plain 6 (last-plan < plan)
+    callRows asked ++ (plain 6 (last-plan < plan)
     ∷ plain 7 (room < head-size + event-size * length (drawsOf asked))
     ∷ plain 15 (Late (runPlan (jobOf asked) (ruleOf (jobOf asked) plan)))
     ∷ [])
@@ -120,10 +131,10 @@ pub record FirstOutOfOrder (events : List Event) (i : ℕ) : Type 0 where
   pub wrong : OutOfOrder events i
   pub first : (j : ℕ) → j < i → OutOfOrder events j → ⊥
 
--- The order for a check, before time begins: 1 to 5, then 8, 7, and 9 over the whole list.
+-- The order for a check, before time begins: 1 to 5, 17, then 8, 7, and 9 over the whole list.
 abbrev pub checkRows : Call → List ℕ → ℕ → ℕ → List Row
 checkRows asked list ticks slots =
-    jobRows (asked .job)
+    callRows asked
     ++ (plain 8 (ListWrong list)
     ∷ plain 7 (PlacesShort (length (drawsOf asked)) ticks slots)
     ∷ row 9 (FirstOutOfOrder (eventsOf list))

@@ -11,7 +11,7 @@ pub govahrin-plan-promise : Promise govahrin-plan.ended govahrin-plan.Reads.Aske
 govahrin-plan-promise =
     record {
       any = λ κs given. tt;
-      one = λ κs given answer answer′ left left′ asked p q. (same (p .0) (q .0), λ i. (tt, (tt, (same (p .1) (q .1) i, tt))));
+      one = λ κs given answer answer′ left left′ asked p q. (same (p .0) (q .0), λ i. (tt, (tt, (tt, (same (p .1) (q .1) i, tt)))));
     }
 
 -- A check has one answer, and one content of each of its two buffers later.
@@ -22,7 +22,7 @@ govahrin-check-promise =
       one = λ κs given answer answer′ left left′ asked p q.
           let (at, from) = p .1 in
           let (at′, from′) = q .1 in
-          (same (p .0) (q .0), λ i. (tt, (tt, (same at at′ i, (same from from′ i, tt)))));
+          (same (p .0) (q .0), λ i. (tt, (tt, (tt, (same at at′ i, (same from from′ i, tt))))));
     }
 
 -- The writer has one answer and one content of the text later, and the reader one of each for its list.

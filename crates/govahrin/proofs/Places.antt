@@ -7,12 +7,12 @@ use lib.ListN.{length, take, drop, length-map, take-append-drop}
 use lib.Seq.{take-at, drop-append-le, length-take-le}
 use lib.Dec.{ltb}
 use borrow.Author.Tests.{lt-ltb, le-ltb, ltb-true, ltb-false}
-use Rattle.rules.specs.declared.JobReading.the-variants.{Taken}
+use Rattle.rules.specs.declared.CallReading.the-variants.{Taken}
 use Rattle.rules.specs.Order.{Verdict, clear, met, firstOf}
-use Rattle.rules.specs.Job.{Call, most-draws, shapeOf, drawsOf, jobOf}
+use Rattle.rules.specs.Job.{Call, most-draws, unrolled, drawsOf, jobOf}
 use Rattle.rules.specs.Display.{Run, going, refused}
 use Rattle.rules.specs.LoadList.{eventsOf}
-use Rattle.rules.specs.Refusals.{jobTests, readJob, follow, mostTicks, checked, checkedForC, answerOf, ticksOf, slotsOf, tickOf, tickBytes, lent}
+use Rattle.rules.specs.Refusals.{callTests, readCall, follow, mostTicks, checked, checkedForC, answerOf, ticksOf, slotsOf, tickOf, tickBytes, lent}
 use Rattle.laws.proofs.Cases.{by-test}
 use Rattle.laws.proofs.Verdicts.{gives, walked, inside}
 use Rattle.laws.proofs.Jobs.{Proper, proper, clear-taken}
@@ -29,28 +29,28 @@ same-test ticks n few =
 
 module _ (asked : Call) (list : List ℕ) where
   -- A check with places for more ticks than the largest job has draws answers as one with just as many.
-  enough-taken : (ticks slots : ℕ) → readJob (asked .job) ≡ Taken (shapeOf (asked .job))
+  enough-taken : (ticks slots : ℕ) → readCall asked ≡ Taken (unrolled asked)
       → checked asked list (min ticks most-draws) slots ≡ checked asked list ticks slots
   unfolding checked
-  enough-taken ticks slots taken = rw (same-test ticks (length (drawsOf asked)) (proper asked (shapeOf (asked .job)) taken .few-draws))
+  enough-taken ticks slots taken = rw (same-test ticks (length (drawsOf asked)) (proper asked (unrolled asked) taken .few-draws))
 
-  enough-refused : (ticks slots n d : ℕ) → firstOf (jobTests (asked .job)) ≡ met n d → checked asked list ticks slots ≡ refused n d
+  enough-refused : (ticks slots n d : ℕ) → firstOf (callTests asked) ≡ met n d → checked asked list ticks slots ≡ refused n d
   enough-refused ticks slots n d e =
-      checked-met asked list ticks slots n d (gives _ _ (inside _ (walked (jobTests (asked .job)) (met n d) e)))
+      checked-met asked list ticks slots n d (gives _ _ (inside _ (walked (callTests asked) (met n d) e)))
 
   pub enough : (ticks slots : ℕ) → checked asked list (min ticks most-draws) slots ≡ checked asked list ticks slots
-  enough ticks slots = by-job (firstOf (jobTests (asked .job))) refl
+  enough ticks slots = by-job (firstOf (callTests asked)) refl
     where
-      by-job : (v : Verdict) → firstOf (jobTests (asked .job)) ≡ v
+      by-job : (v : Verdict) → firstOf (callTests asked) ≡ v
           → checked asked list (min ticks most-draws) slots ≡ checked asked list ticks slots
-      by-job clear e = enough-taken ticks slots (clear-taken (asked .job) e)
+      by-job clear e = enough-taken ticks slots (clear-taken asked e)
       by-job (met n d) e = enough-refused (min ticks most-draws) slots n d e ∙ sym (enough-refused ticks slots n d e)
 
   -- A check reports no more ticks than it has places for.
   few-reported : (ticks slots : ℕ) (run : Run) → checked asked list ticks slots ≡ run → length (ticksOf run) ≤ ticks
   few-reported ticks slots (going s) e =
       let a : Accepted asked list ticks slots s = accepted asked list ticks slots s e in
-      let p : Proper (jobOf asked) = proper asked (shapeOf (asked .job)) (a .job-taken) in
+      let p : Proper (jobOf asked) = proper asked (unrolled asked) (a .job-taken) in
       let c : CountedState (jobOf asked) s = counted (jobOf asked) (follow (eventsOf list)) p (mostTicks (jobOf asked)) s (a .ran) in
       let all : s .tick ≡ length (drawsOf asked) + s .waits =
       elapsed (jobOf asked) (follow (eventsOf list)) p (mostTicks (jobOf asked)) s (a .ran) (a .over) in

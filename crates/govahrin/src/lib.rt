@@ -16,38 +16,46 @@ ghost use Rattle.govahrin.specs.Reports.{Reports};
 ghost use Rattle.rules.specs.Text.{writeText, readText, writtenOf, bytesOf};
 ghost use Rattle.rules.specs.Refusals.{checked, checkedForC, planned, answerOf, ticksOf, slotsOf, tickBytes, writtenBy, lent};
 
-// The plan of a job, its list written into the room.
+// The plan of this many rounds of a job, its list written into the room.
 #[no_mangle]
-pub extern "C" fn govahrin_plan(job: &[u8], plan: u32, room: &mut [u8]) -> Answer
-    ensures answers { λ r. ⌜ r ≡ answerOf (planned (call (now (job .entry))) plan (length (now (room .entry)))) ⌝ }
-    ensures writes { λ r. ⌜ now (room .exit) ≡ lent (writtenBy (planned (call (now (job .entry))) plan (length (now (room .entry))))) (now (room .entry)) ⌝ }
+pub extern "C" fn govahrin_plan(job: &[u8], plan: u32, rounds: u32, room: &mut [u8]) -> Answer
+    ensures answers { λ r. ⌜ r ≡ answerOf (planned (call (now (job .entry)) rounds) plan (length (now (room .entry)))) ⌝ }
+    ensures writes { λ r. ⌜ now (room .exit) ≡ lent (writtenBy (planned (call (now (job .entry)) rounds) plan (length (now (room .entry))))) (now (room .entry)) ⌝ }
 {
-    planner::plan(job, plan, room)
+    planner::plan(job, plan, rounds, room)
 }
 
 // A check whose places for ticks are the first of a row.
-fn check_in(job: &[u8], list: &[u8], row: &mut [u32], places: usize, slots: &mut [u8]) -> Checked
+fn check_in(
+    job: &[u8],
+    list: &[u8],
+    rounds: u32,
+    row: &mut [u32],
+    places: usize,
+    slots: &mut [u8],
+) -> Checked
     requires { ⌜ places ≤ length (now row) ⌝ }
-    ensures { λ r. ⌜ Reports (checked (call (now (job .entry))) (now (list .entry)) places (length (now (slots .entry)))) r (now (row .entry)) (now (row .exit)) (now (slots .entry)) (now (slots .exit)) ⌝ }
+    ensures { λ r. ⌜ Reports (checked (call (now (job .entry)) rounds) (now (list .entry)) places (length (now (slots .entry)))) r (now (row .entry)) (now (row .exit)) (now (slots .entry)) (now (slots .exit)) ⌝ }
 {
-    checker::check_draws(job, list, &mut row[..places], slots)
+    checker::check_draws(job, list, rounds, &mut row[..places], slots)
 }
 
-// The check of a list against a job. Its ticks are written last, as many as it reports draws.
+// The check of a list against this many rounds of a job. Its ticks are written last, as many as it reports draws.
 #[no_mangle]
 pub extern "C" fn govahrin_check(
     job: &[u8],
     list: &[u8],
+    rounds: u32,
     ticks: &mut [u8],
     slots: &mut [u8],
 ) -> Answer
-    ensures answer { λ r. ⌜ r ≡ answerOf (checkedForC (call (now (job .entry))) (now (list .entry)) (length (now (ticks .entry))) (length (now (slots .entry)))) ⌝ }
-    ensures ticks { λ r. ⌜ now (ticks .exit) ≡ lent (tickBytes (ticksOf (checkedForC (call (now (job .entry))) (now (list .entry)) (length (now (ticks .entry))) (length (now (slots .entry)))))) (now (ticks .entry)) ⌝ }
-    ensures slots { λ r. ⌜ now (slots .exit) ≡ lent (slotsOf (checkedForC (call (now (job .entry))) (now (list .entry)) (length (now (ticks .entry))) (length (now (slots .entry))))) (now (slots .entry)) ⌝ }
+    ensures answer { λ r. ⌜ r ≡ answerOf (checkedForC (call (now (job .entry)) rounds) (now (list .entry)) (length (now (ticks .entry))) (length (now (slots .entry)))) ⌝ }
+    ensures ticks { λ r. ⌜ now (ticks .exit) ≡ lent (tickBytes (ticksOf (checkedForC (call (now (job .entry)) rounds) (now (list .entry)) (length (now (ticks .entry))) (length (now (slots .entry)))))) (now (ticks .entry)) ⌝ }
+    ensures slots { λ r. ⌜ now (slots .exit) ≡ lent (slotsOf (checkedForC (call (now (job .entry)) rounds) (now (list .entry)) (length (now (ticks .entry))) (length (now (slots .entry))))) (now (slots .entry)) ⌝ }
 {
     let mut row = [0u32; MOST_DRAWS as usize];
     let places = tick_places(ticks.len());
-    let checked = check_in(job, list, &mut row, places, slots);
+    let checked = check_in(job, list, rounds, &mut row, places, slots);
     put_ticks(ticks, &row, checked.draws);
     checked.answer
 }

@@ -5,33 +5,33 @@ use mathlib.Core.List.{List}
 use lib.ListN.{length}
 use Rattle.rules.specs.declared.Answer.{Answer}
 use Rattle.rules.specs.declared.Written.{Written}
-use Rattle.rules.specs.Job.{call}
+use Rattle.rules.specs.Job.{Call}
 use Rattle.rules.specs.Refusals.{lent, tickBytes}
 use Rattle.demands.specs.Table.{Gives, Row, planRows, Given, NoCounts}
 use Rattle.demands.specs.Fair.{Right}
 
 -- A plan is accepted with number 0 and detail 0; or it is refused with the number and detail that the table gives, without counts, and the
 -- room is as it was.
-pub data PlanAnswers (job : List ℕ) (plan : ℕ) (room : List ℕ) (answer : Answer) (room′ : List ℕ) : Type 0 where
-  accepted : answer .number ≡ 0 → answer .detail ≡ 0 → PlanAnswers job plan room answer room′
-  refused : Gives (planRows (call job) plan (length room)) (answer .number) (answer .detail)
+pub data PlanAnswers (asked : Call) (plan : ℕ) (room : List ℕ) (answer : Answer) (room′ : List ℕ) : Type 0 where
+  accepted : answer .number ≡ 0 → answer .detail ≡ 0 → PlanAnswers asked plan room answer room′
+  refused : Gives (planRows asked plan (length room)) (answer .number) (answer .detail)
       → NoCounts answer
       → room′ ≡ room
-      → PlanAnswers job plan room answer room′
+      → PlanAnswers asked plan room answer room′
 
 -- The same of a check and its two buffers. It has a place for a tick to every four bytes lent.
-pub data CheckAnswers (job list ticks slots : List ℕ) (answer : Answer) (ticks′ slots′ : List ℕ) : Type 0 where
-  accepted : answer .number ≡ 0 → answer .detail ≡ 0 → CheckAnswers job list ticks slots answer ticks′ slots′
-  refused : Given (call job) list (length ticks / 4) (length slots) (answer .number) (answer .detail)
+pub data CheckAnswers (asked : Call) (list ticks slots : List ℕ) (answer : Answer) (ticks′ slots′ : List ℕ) : Type 0 where
+  accepted : answer .number ≡ 0 → answer .detail ≡ 0 → CheckAnswers asked list ticks slots answer ticks′ slots′
+  refused : Given asked list (length ticks / 4) (length slots) (answer .number) (answer .detail)
       → NoCounts answer
       → (ticks′ ≡ ticks) × (slots′ ≡ slots)
-      → CheckAnswers job list ticks slots answer ticks′ slots′
+      → CheckAnswers asked list ticks slots answer ticks′ slots′
 
 -- A sheet of draw ticks and slots that is right by the list alone, and the lent memory holds it.
-pub record HoldsSheet (job list ticks slots : List ℕ) (answer : Answer) (ticks′ slots′ : List ℕ) : Type 0 where
+pub record HoldsSheet (asked : Call) (list ticks slots : List ℕ) (answer : Answer) (ticks′ slots′ : List ℕ) : Type 0 where
   pub at : List ℕ
   pub from : List ℕ
-  pub right : Right (call job) list (length ticks / 4) (length slots) at from answer
+  pub right : Right asked list (length ticks / 4) (length slots) at from answer
   pub ticks-hold : ticks′ ≡ lent (tickBytes at) ticks
   pub slots-hold : slots′ ≡ lent from slots
 

@@ -8,34 +8,36 @@ use denote.Triple.Clauses.{Lasts, atExit}
 use borrow.Fn.World.{ArgsD}
 use Rattle.rules.specs.declared.Answer.{Answer}
 use Rattle.rules.specs.declared.Written.{Written}
+use Rattle.rules.specs.Job.{Call, call}
 use Rattle.govahrin.proofs.govahrin_plan as govahrin-plan
 use Rattle.govahrin.proofs.govahrin_check as govahrin-check
 use Rattle.govahrin.proofs.govahrin_write_text as govahrin-write-text
 use Rattle.govahrin.proofs.govahrin_read_text as govahrin-read-text
 
--- A call of `govahrin_plan` with this job, plan and room ended with this answer and left this in the room.
-pub record PlanOutcome (job : List ℕ) (plan : ℕ) (room : List ℕ) (answer : Answer) (room′ : List ℕ) : Type 0 where
+-- A call of `govahrin_plan` that asks about this job and its rounds, with this plan and room, ended with this answer and left this in the room.
+pub record PlanOutcome (asked : Call) (plan : ℕ) (room : List ℕ) (answer : Answer) (room′ : List ℕ) : Type 0 where
   pub lifetimes : Lfts (govahrin-plan.signature .lifetimes)
   pub given : ArgsD govahrin-plan.signature lifetimes
   pub left : Lasts govahrin-plan.ended lifetimes given
   pub learnt : govahrin-plan.Reads.Learnt lifetimes given answer (atExit govahrin-plan.ended lifetimes given left)
-  pub with-job : given .0 .now ≡ job
+  pub with-call : call (given .0 .now) (given .1 .1 .0) ≡ asked
   pub with-plan : given .1 .0 ≡ plan
-  pub with-room : given .1 .1 .0 .now ≡ room
-  pub left-room : left .1 .1 .0 ≡ room′
+  pub with-room : given .1 .1 .1 .0 .now ≡ room
+  pub left-room : left .1 .1 .1 .0 ≡ room′
 
--- A call of `govahrin_check` with this job, list and memory for ticks and slots ended with this answer and left this in that memory.
-pub record CheckOutcome (job list ticks slots : List ℕ) (answer : Answer) (ticks′ slots′ : List ℕ) : Type 0 where
+-- A call of `govahrin_check` that asks about this job and its rounds, with this list and memory for ticks and slots, ended with this answer
+-- and left this in that memory.
+pub record CheckOutcome (asked : Call) (list ticks slots : List ℕ) (answer : Answer) (ticks′ slots′ : List ℕ) : Type 0 where
   pub lifetimes : Lfts (govahrin-check.signature .lifetimes)
   pub given : ArgsD govahrin-check.signature lifetimes
   pub left : Lasts govahrin-check.ended lifetimes given
   pub learnt : govahrin-check.Reads.Learnt lifetimes given answer (atExit govahrin-check.ended lifetimes given left)
-  pub with-job : given .0 .now ≡ job
+  pub with-call : call (given .0 .now) (given .1 .1 .0) ≡ asked
   pub with-list : given .1 .0 .now ≡ list
-  pub with-ticks : given .1 .1 .0 .now ≡ ticks
-  pub with-slots : given .1 .1 .1 .0 .now ≡ slots
-  pub left-ticks : left .1 .1 .0 ≡ ticks′
-  pub left-slots : left .1 .1 .1 .0 ≡ slots′
+  pub with-ticks : given .1 .1 .1 .0 .now ≡ ticks
+  pub with-slots : given .1 .1 .1 .1 .0 .now ≡ slots
+  pub left-ticks : left .1 .1 .1 .0 ≡ ticks′
+  pub left-slots : left .1 .1 .1 .1 .0 ≡ slots′
 
 -- A call of `govahrin_write_text` with this list and room for its text ended with this answer and left this in the room.
 pub record WriteOutcome (list text : List ℕ) (answer : Written) (text′ : List ℕ) : Type 0 where

@@ -7,23 +7,23 @@ use mathlib.Core.List.{List, []}
 use lib.ListN.{length}
 use lib.Dec.{ltb}
 use borrow.Author.Tests.{ltb-false, le-ltb}
-use Rattle.rules.specs.declared.JobReading.the-variants.{Taken}
-use Rattle.rules.specs.declared.Shape.{Shape}
+use Rattle.rules.specs.declared.CallReading.the-variants.{Taken}
+use Rattle.rules.specs.declared.Unrolled.{Unrolled}
 use Rattle.rules.specs.Order.{Verdict, clear, met, firstOf}
-use Rattle.rules.specs.Job.{Job, Call, shapeOf, drawsOf, jobOf}
+use Rattle.rules.specs.Job.{Job, Call, unrolled, drawsOf, jobOf}
 use Rattle.rules.specs.LoadList.{Event, eventsOf}
 use Rattle.rules.specs.Display.{State, going, refused, unless, start, finished, run}
-use Rattle.rules.specs.Refusals.{jobTests, readJob, badList, shortCheck, firstBadTick, follow, mostTicks, closing, follows, checkTests, checked}
+use Rattle.rules.specs.Refusals.{jobTests, callTests, readCall, badList, shortCheck, firstBadTick, follow, mostTicks, closing, follows, checkTests, checked}
 use Rattle.laws.proofs.Cases.{by-test, neither}
 use Rattle.laws.proofs.Verdicts.{clear-of, clear-append, unless-going, step, end, gives}
 use Rattle.laws.proofs.Moves.{then-going, is-over}
-use Rattle.laws.proofs.Jobs.{Proper, proper, clear-taken, past-job}
+use Rattle.laws.proofs.Jobs.{Proper, proper, clear-taken, past-call}
 use Rattle.laws.proofs.Along.{Ruly, bad-tick-within, AlongBetween, along}
 
--- A check that is not refused: the job is taken, the list can be read, the lent room suffices, no event is out of order, and the run
+-- A check that is not refused: the job is taken in its rounds, the list can be read, the lent room suffices, no event is out of order, and the run
 -- along the list is over with every event begun.
 pub record Accepted (asked : Call) (list : List ℕ) (ticks slots : ℕ) (s : State) : Type 0 where
-  pub job-taken : readJob (asked .job) ≡ Taken (shapeOf (asked .job))
+  pub job-taken : readCall asked ≡ Taken (unrolled asked)
   pub list-read : badList list ≡ false
   pub tick-room : length (drawsOf asked) ≤ ticks
   pub slot-room : length (drawsOf asked) ≤ slots
@@ -67,15 +67,15 @@ pub checked-past : (asked : Call) (list : List ℕ) (ticks slots : ℕ) → firs
 unfolding checked
 checked-past asked list ticks slots e = ap (λ (v : Verdict). unless v (follows (jobOf asked) (eventsOf list))) e
 
--- A job that is taken, a list that can be read, places enough and events in order: past all tests.
-pub checked-follows : (asked : Call) (list : List ℕ) (ticks slots : ℕ) (shape : Shape) → readJob (asked .job) ≡ Taken shape → badList list ≡ false
+-- A call that is taken, a list that can be read, places enough and events in order: past all tests.
+pub checked-follows : (asked : Call) (list : List ℕ) (ticks slots : ℕ) (shape : Unrolled) → readCall asked ≡ Taken shape → badList list ≡ false
     → length (drawsOf asked) ≤ ticks → length (drawsOf asked) ≤ slots → Ruly 0 (eventsOf list)
     → checked asked list ticks slots ≡ follows (jobOf asked) (eventsOf list)
 unfolding shortCheck
 checked-follows asked list ticks slots shape taken good tick-room slot-room ordered =
     checked-past asked list ticks slots
     (gives _ _
-    (past-job (asked .job) (readJob (asked .job)) shape refl taken
+    (past-call asked (readCall asked) shape refl taken
     (step false (sym good) refl
     (step false (rw (le-ltb ticks (length (drawsOf asked)) tick-room, le-ltb slots (length (drawsOf asked)) slot-room)) refl
     (step false (rw (le-ltb (firstBadTick 0 (eventsOf list)) (length (eventsOf list)) (omega arith))) refl
@@ -90,12 +90,12 @@ past-tests asked list ticks slots s e = unless-going (firstOf (checkTests asked 
 -- So it is an accepted one.
 pub accepted : (asked : Call) (list : List ℕ) (ticks slots : ℕ) (s : State) → checked asked list ticks slots ≡ going s
     → Accepted asked list ticks slots s
-unfolding jobTests shortCheck
+unfolding jobTests callTests shortCheck
 accepted asked list ticks slots s e =
     let (past, f) = past-tests asked list ticks slots s e in
     let fails = clear-of (checkTests asked list ticks slots) past in
-    let reading : readJob (asked .job) ≡ Taken (shapeOf (asked .job)) = clear-taken (asked .job) (clear-append (jobTests (asked .job)) _ past .0) in
-    let p : Proper (jobOf asked) = proper asked (shapeOf (asked .job)) reading in
+    let reading : readCall asked ≡ Taken (unrolled asked) = clear-taken asked (clear-append (callTests asked) _ past .0) in
+    let p : Proper (jobOf asked) = proper asked (unrolled asked) reading in
     let ordered : Ruly 0 (eventsOf list) = in-order (eventsOf list) (fails 9) in
     let (ran, over, all) = followed (jobOf asked) (eventsOf list) p ordered s f in
     let (tick-room, slot-room) = neither _ _ (fails 7) in

@@ -5,6 +5,7 @@ pub mod Parts
 pub mod Places
 pub mod RoundTrip
 pub mod Search
+pub mod Rounds
 pub mod Rows
 pub mod Ranks
 pub mod Moves

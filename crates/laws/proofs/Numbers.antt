@@ -1,4 +1,4 @@
--- The numbers of what the readers find are the numbers of the tests: for a job, for a list, and for an event.
+-- The numbers of what the readers find are the numbers of the tests: for a call, for a list, and for an event.
 use Prim.Native.Nat.{ℕ, _+_, _*_, _-_, _<_, _≤_}
 use native.Mathlib.Omega.{arith}
 use mathlib.Core.Path.{_≡_, refl}
@@ -9,15 +9,15 @@ use lib.Dec.{ltb}
 use borrow.Author.Tests.{ltb-false, le-ltb, eqb-true, not-false}
 use Rattle.rules.specs.Order.{Verdict, clear, met, test, firstOf, numberIn}
 use Rattle.rules.specs.Basics.{number32}
-use Rattle.rules.specs.Job.{shapeOf}
+use Rattle.rules.specs.Job.{Call, unrolled}
 use Rattle.rules.specs.LoadList.{countOf, head-size, event-size, event-at, readEvent}
-use Rattle.rules.specs.Refusals.{jobTests, badList, readAs, readJob, readList, jobNumber, listNumber, eventNumber}
+use Rattle.rules.specs.Refusals.{callTests, badList, readAs, readCall, readList, callNumber, listNumber, eventNumber}
 use Rattle.laws.proofs.Cases.{by-test, neither}
 
-pub job-number : (job : List ℕ) → jobNumber (readJob job) ≡ numberIn (firstOf (jobTests job))
-job-number job = by-verdict (firstOf (jobTests job))
+pub call-number : (asked : Call) → callNumber (readCall asked) ≡ numberIn (firstOf (callTests asked))
+call-number asked = by-verdict (firstOf (callTests asked))
   where
-    by-verdict : (v : Verdict) → jobNumber (readAs v (shapeOf job)) ≡ numberIn v
+    by-verdict : (v : Verdict) → callNumber (readAs v (unrolled asked)) ≡ numberIn v
     by-verdict clear = refl
     by-verdict (met n d) = refl
 

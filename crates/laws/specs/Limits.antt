@@ -1,13 +1,13 @@
--- What the code may count on once the job of a call was taken: the one record of limits, asked for by every function that needs any.
--- That each taken job meets it is one law (proofs/Jobs.antt, `limits`).
+-- What the code may count on once a call was taken: the one record of limits, asked for by every function that needs any.
+-- That each taken call meets it is one law (proofs/Jobs.antt, `limits`).
 use Prim.Native.Nat.{_≤_}
 use mathlib.Core.Path.{_≡_}
 use lib.ListN.{length}
-use Rattle.rules.specs.declared.Shape.{Shape}
-use Rattle.rules.specs.Job.{Call, most-slots, most-load-time, most-draws, shapeOf, drawsOf}
+use Rattle.rules.specs.declared.Unrolled.{Unrolled}
+use Rattle.rules.specs.Job.{Call, most-slots, most-load-time, most-draws, unrolled, drawsOf}
 
-pub record Limits (asked : Call) (shape : Shape) : Type 0 where
-  pub shaped : shape ≡ shapeOf (asked .job)
+pub record Limits (asked : Call) (shape : Unrolled) : Type 0 where
+  pub shaped : shape ≡ unrolled asked
   pub some-slot : 1 ≤ shape .slots
   pub few-slots : shape .slots ≤ most-slots
   pub some-load-time : 1 ≤ shape .«load_time»

@@ -7,12 +7,12 @@ use mathlib.Core.List.{List, [], map}
 use lib.ListN.{length}
 use Rattle.rules.specs.declared.Loading.{Loading}
 use Rattle.rules.specs.declared.Loading.the-variants.{Idle, Under}
-use Rattle.rules.specs.declared.JobReading.the-variants.{Taken}
-use Rattle.rules.specs.declared.Shape.{Shape}
-use Rattle.rules.specs.Job.{Job, Call, jobOf, drawsOf, shapeOf}
+use Rattle.rules.specs.declared.CallReading.the-variants.{Taken}
+use Rattle.rules.specs.declared.Unrolled.{Unrolled}
+use Rattle.rules.specs.Job.{Job, Call, jobOf, drawsOf, unrolled}
 use Rattle.rules.specs.LoadList.{head-size, event-size, eventsOf}
 use Rattle.rules.specs.Display.{State, Rule, going, start, landedSlots, landedLoading, run}
-use Rattle.rules.specs.Refusals.{readJob, follow, mostTicks, checked, planned}
+use Rattle.rules.specs.Refusals.{readCall, follow, mostTicks, checked, planned}
 use Rattle.laws.proofs.Jobs.{Proper, proper}
 use Rattle.laws.proofs.Sane.{SaneMoves, reached-sanely}
 use Rattle.laws.proofs.Counts.{elapsed}
@@ -103,15 +103,15 @@ pub conservative-best : (asked : Call) (list : List ℕ) (ticks slots : ℕ) (s 
     → (c : State) × (planned asked 1 room ≡ going c) × Better c s
 conservative-best asked list ticks slots s e room enough =
     let a : Accepted asked list ticks slots s = accepted asked list ticks slots s e in
-    let good : Proper (jobOf asked) = proper asked (shapeOf (asked .job)) (a .job-taken) in
+    let good : Proper (jobOf asked) = proper asked (unrolled asked) (a .job-taken) in
     let d = conservative-done (jobOf asked) good in (
       d .last,
-      planned-done asked (shapeOf (asked .job)) 1 room (a .job-taken) (omega arith) enough d,
+      planned-done asked (unrolled asked) 1 room (a .job-taken) (omega arith) enough d,
       conservative-better (jobOf asked) good (follow (eventsOf list)) (mostTicks (jobOf asked)) s (a .ran) (a .over),
     )
 
 -- Of every job that is taken, with room enough, conservative is never later than opt, and makes opt's loads in opt's order.
-pub conservative-like-opt : (asked : Call) (shape : Shape) (room : ℕ) → readJob (asked .job) ≡ Taken shape
+pub conservative-like-opt : (asked : Call) (shape : Unrolled) (room : ℕ) → readCall asked ≡ Taken shape
     → head-size + event-size * length (drawsOf asked) ≤ room
     → (c o : State) × (planned asked 1 room ≡ going c) × (planned asked 2 room ≡ going o)
     × (c .tick ≤ o .tick) × (map loadOf (c .begun) ≡ map loadOf (o .begun))

@@ -6,17 +6,17 @@ use mathlib.Core.Bool.{false}
 use mathlib.Core.List.{List, map}
 use lib.ListN.{length, length-map}
 use borrow.Author.Tests.{le-ltb}
-use Rattle.rules.specs.declared.JobReading.the-variants.{Taken}
+use Rattle.rules.specs.declared.CallReading.the-variants.{Taken}
 use Rattle.rules.specs.declared.ListReading.the-variants.{Listed, Unreadable}
-use Rattle.rules.specs.declared.Shape.{Shape}
+use Rattle.rules.specs.declared.Unrolled.{Unrolled}
 use Rattle.rules.specs.Order.{Verdict, clear, met, firstOf}
 use Rattle.rules.specs.Job.{Job, Call, jobOf, drawsOf}
 use Rattle.rules.specs.LoadList.{Event, most-events, head-size, event-size, listBytes}
 use Rattle.rules.specs.Display.{State, going, refused, unless}
 use Rattle.rules.specs.Plans.{last-plan, ruleOf, runPlan}
-use Rattle.rules.specs.Refusals.{readJob, badList, follows, checked, inTime, shortPlan, planTests, planned, eventOf, writtenBy, answerOf}
+use Rattle.rules.specs.Refusals.{readCall, badList, follows, checked, inTime, shortPlan, planTests, planned, eventOf, writtenBy, answerOf}
 use Rattle.laws.proofs.Cases.{by-test}
-use Rattle.laws.proofs.Jobs.{Proper, proper, past-job}
+use Rattle.laws.proofs.Jobs.{Proper, proper, past-call}
 use Rattle.laws.proofs.Verdicts.{step, end, gives}
 use Rattle.laws.proofs.Along.{Ruly}
 use Rattle.laws.proofs.Checks.{checked-follows}
@@ -48,18 +48,18 @@ unfolding planned
 planned-past asked p room e = ap (λ (v : Verdict). unless v (inTime (runPlan (jobOf asked) (ruleOf (jobOf asked) p)))) e
 
 -- A job that is taken, a plan's number and room enough: past all tests,
-pub plan-clear : (asked : Call) (shape : Shape) (p room : ℕ) → readJob (asked .job) ≡ Taken shape → p ≤ last-plan
+pub plan-clear : (asked : Call) (shape : Unrolled) (p room : ℕ) → readCall asked ≡ Taken shape → p ≤ last-plan
     → head-size + event-size * length (drawsOf asked) ≤ room → firstOf (planTests asked p room) ≡ clear
 unfolding shortPlan
 plan-clear asked shape p room taken known enough =
     gives _ _
-    (past-job (asked .job) (readJob (asked .job)) shape refl taken
+    (past-call asked (readCall asked) shape refl taken
     (step false (rw (le-ltb last-plan p known)) refl
     (step false (rw (le-ltb room (head-size + event-size * length (drawsOf asked)) enough)) refl
     end)))
 
 -- and the plan comes to its last state.
-pub planned-done : {P : State → Type 0} (asked : Call) (shape : Shape) (p room : ℕ) → readJob (asked .job) ≡ Taken shape → p ≤ last-plan
+pub planned-done : {P : State → Type 0} (asked : Call) (shape : Unrolled) (p room : ℕ) → readCall asked ≡ Taken shape → p ≤ last-plan
     → head-size + event-size * length (drawsOf asked) ≤ room
     → (d : Done (jobOf asked) (ruleOf (jobOf asked) p) P) → planned asked p room ≡ going (d .last)
 planned-done asked shape p room taken known enough d =
@@ -76,7 +76,7 @@ written-read l few =
     (λ t. t)
 
 -- A list in order, checked as the bytes that are written for it, with places enough.
-written-checked : (asked : Call) (shape : Shape) (l : List Event) (ticks slots : ℕ) → readJob (asked .job) ≡ Taken shape → length l ≤ most-events
+written-checked : (asked : Call) (shape : Unrolled) (l : List Event) (ticks slots : ℕ) → readCall asked ≡ Taken shape → length l ≤ most-events
     → length (drawsOf asked) ≤ ticks → length (drawsOf asked) ≤ slots → Ruly 0 l
     → checked asked (listBytes l) ticks slots ≡ follows (jobOf asked) l
 written-checked asked shape l ticks slots taken few ticks-room slots-room ordered =
@@ -85,7 +85,7 @@ written-checked asked shape l ticks slots taken few ticks-room slots-room ordere
 
 -- A plan of a job that is taken, with room enough, is accepted; and the check of the bytes that it writes, with places enough, is accepted and
 -- comes to the very same state: the same elapsed, waits and loads, and the same draws.
-pub plan-checked : (asked : Call) (shape : Shape) (p room ticks slots : ℕ) → readJob (asked .job) ≡ Taken shape → p ≤ last-plan
+pub plan-checked : (asked : Call) (shape : Unrolled) (p room ticks slots : ℕ) → readCall asked ≡ Taken shape → p ≤ last-plan
     → head-size + event-size * length (drawsOf asked) ≤ room → length (drawsOf asked) ≤ ticks → length (drawsOf asked) ≤ slots
     → (s : State) × (planned asked p room ≡ going s) × (checked asked (writtenBy (planned asked p room)) ticks slots ≡ going s)
 plan-checked asked shape p room ticks slots taken known enough ticks-room slots-room =
@@ -98,7 +98,7 @@ plan-checked asked shape p room ticks slots taken known enough ticks-room slots-
     (d .last, accepted, rw accepted (written-checked asked shape events ticks slots taken few ticks-room slots-room (d .in-order) ∙ d .replays))
 
 -- So a check of what a plan wrote answers what the plan answered.
-pub plan-answers : (asked : Call) (shape : Shape) (p room ticks slots : ℕ) → readJob (asked .job) ≡ Taken shape → p ≤ last-plan
+pub plan-answers : (asked : Call) (shape : Unrolled) (p room ticks slots : ℕ) → readCall asked ≡ Taken shape → p ≤ last-plan
     → head-size + event-size * length (drawsOf asked) ≤ room → length (drawsOf asked) ≤ ticks → length (drawsOf asked) ≤ slots
     → answerOf (checked asked (writtenBy (planned asked p room)) ticks slots) ≡ answerOf (planned asked p room)
 plan-answers asked shape p room ticks slots taken known enough ticks-room slots-room =

@@ -1,4 +1,5 @@
-// The summary of the job on standard input: a line for each plan with its name, elapsed, waits and loads, or the line of the refusal.
+// The summary of one round of the job on standard input: a line for each plan with its name, elapsed, waits and loads, or the line
+// of the refusal.
 use crate::names::plan_of;
 use libc::STDIN_FILENO;
 use libc::STDOUT_FILENO;
@@ -14,7 +15,7 @@ fn written(whole: bool) -> bool {
 // The line of one plan, or of its refusal. Answers whether the job was planned and the line written. The room is that of the longest list.
 fn print_plan(job: &[u8], name: &[u8]) -> bool {
     let mut room = [0u8; 28679];
-    let answer = planner::plan(job, plan_of(name), &mut room);
+    let answer = planner::plan(job, plan_of(name), 1, &mut room);
     if answer.number != 0 {
         written(report::say_refusal(STDOUT_FILENO, answer.number, answer.detail));
         return false;

@@ -7,5 +7,5 @@ pub plan-promise : Promise plan.ended plan.Reads.Asked plan.Reads.Learnt
 plan-promise =
     record {
       any = λ κs given. tt;
-      one = λ κs given answer answer′ left left′ asked p q. (same (p .0) (q .0), λ i. (tt, (tt, (same (p .1) (q .1) i, tt))));
+      one = λ κs given answer answer′ left left′ asked p q. (same (p .0) (q .0), λ i. (tt, (tt, (tt, (same (p .1) (q .1) i, tt)))));
     }

@@ -1,25 +1,25 @@
 -- A plan of a job that was taken: its run is never refused and is over in time, so every load has a place; and the answers of `plan`.
 use Prim.Native.Nat.{ℕ, _+_, _*_, _≤_}
 use native.Mathlib.Omega.{arith}
-use mathlib.Core.Path.{_≡_, refl, sym, ap, _∙_}
+use mathlib.Core.Path.{_≡_, refl, sym, ap, subst, _∙_}
 use mathlib.Core.Bool.{Bool, true, false, cond}
 use mathlib.Core.List.{List, [], map}
-use lib.ListN.{length, take, drop, length-take}
+use lib.ListN.{length, take, length-take}
 use lib.Dec.{ltb}
 use borrow.Author.Tests.{ltb-false}
 use Rattle.rules.specs.declared.Answer.{Answer}
-use Rattle.rules.specs.declared.JobReading.{JobReading}
-use Rattle.rules.specs.declared.JobReading.the-variants.{Taken}
-use Rattle.rules.specs.declared.Shape.{Shape}
+use Rattle.rules.specs.declared.CallReading.{CallReading}
+use Rattle.rules.specs.declared.CallReading.the-variants.{Taken}
+use Rattle.rules.specs.declared.Unrolled.{Unrolled}
 use Rattle.rules.specs.Order.{clear, met}
-use Rattle.rules.specs.Job.{Call, call, symbols, drawsOf, draws-at, jobOf, most-draws}
+use Rattle.rules.specs.Job.{Call, call, drawsOf, jobOf, most-draws}
 use Rattle.rules.specs.LoadList.{head-size, event-size, listBytes}
 use Rattle.rules.specs.Display.{State, Run, Loaded, going, refused, finished}
 use Rattle.rules.specs.Plans.{runPlan, begunIn, ruleOf}
-use Rattle.rules.specs.Refusals.{readJob, shortPlan, inTime, planTests, planned, eventOf, answerOf, writtenBy, lent}
+use Rattle.rules.specs.Refusals.{readCall, shortPlan, inTime, planTests, planned, eventOf, answerOf, writtenBy, lent}
 use Rattle.laws.proofs.Verdicts.{Gives, gives}
 use Rattle.laws.specs.Limits.{Limits}
-use Rattle.laws.proofs.Jobs.{limits, proper}
+use Rattle.laws.proofs.Jobs.{limits, proper, same-call}
 use Rattle.plan_laws.proofs.Keeping.{Done}
 use Rattle.plan_laws.proofs.Plans.{Any, plan-done, planned-met, planned-past}
 use Rattle.display.specs.View.{History, view}
@@ -32,15 +32,21 @@ use Rattle.planner.specs.Runs.{runOf, Ended, HasRoom, CarriedOut}
 -- ---- The order of the refusals, as the code meets it
 
 -- The test of the lent room, as the code has it from the shape that was read.
-pub room-test : (job : List ℕ) (reading : JobReading) (shape : Shape) (room : ℕ) (r : Bool) → reading ≡ readJob job → reading ≡ Taken shape
-    → r ≡ ltb room (head-size + event-size * shape .draws) → r ≡ shortPlan (call job) room
+pub room-test : (asked : Call) (reading : CallReading) (shape : Unrolled) (room : ℕ) (r : Bool) → reading ≡ readCall asked → reading ≡ Taken shape
+    → r ≡ ltb room (head-size + event-size * shape .draws) → r ≡ shortPlan asked room
 unfolding shortPlan
-room-test job reading shape room r is taken e = rw (limits (call job) shape (sym is ∙ taken) .many-draws) e
+room-test asked reading shape room r is taken e = rw (limits asked shape (sym is ∙ taken) .many-draws) e
 
 -- What the run asks for is known past the tests.
-pub roomy : (job : List ℕ) (reading : JobReading) (shape : Shape) (room : List ℕ) (r : Bool) → reading ≡ readJob job → reading ≡ Taken shape
-    → r ≡ ltb (length room) (head-size + event-size * shape .draws) → r ≡ false → HasRoom (call job) shape room
-roomy job reading shape room r is taken e fails = record { taken = sym is ∙ taken; enough = ltb-false _ _ (sym e ∙ fails) }
+pub roomy : (job : List ℕ) (rounds : ℕ) (reading : CallReading) (shape : Unrolled) (room : List ℕ) (r : Bool) → reading ≡ readCall (call job rounds)
+    → reading ≡ Taken shape → r ≡ ltb (length room) (head-size + event-size * shape .draws) → r ≡ false
+    → HasRoom (call job (shape .rounds)) shape room
+roomy job rounds reading shape room r is taken e fails =
+    let read : readCall (call job rounds) ≡ Taken shape = sym is ∙ taken in
+    record {
+      taken = subst (λ (a : Call). readCall a ≡ Taken shape) (same-call (call job rounds) shape read) read;
+      enough = ltb-false _ _ (sym e ∙ fails);
+    }
 
 module _ (asked : Call) (plan : ℕ) (room : List ℕ) (answer : Answer) where
   -- A plan that is refused leaves the room as it was.
@@ -51,23 +57,21 @@ module _ (asked : Call) (plan : ℕ) (room : List ℕ) (answer : Answer) where
       (answers ∙ ap answerOf (sym is), rw is)
 
   -- Past all tests it is carried out.
-  pub carries-out : (room′ : List ℕ) → CarriedOut asked plan answer room room′
+  pub carries-out : (reading : CallReading) (shape : Unrolled) (room′ : List ℕ) → reading ≡ readCall asked → reading ≡ Taken shape
+      → CarriedOut (call (asked .job) (shape .rounds)) plan answer room room′
       → Gives (planTests asked plan (length room)) clear
       → (answer ≡ answerOf (planned asked plan (length room))) × (room′ ≡ lent (writtenBy (planned asked plan (length room))) room)
-  carries-out room′ carried g =
-      let is : planned asked plan (length room) ≡ runOf asked plan = planned-past asked plan (length room) (gives _ _ g) in
+  carries-out reading shape room′ is′ taken carried g =
+      let is : planned asked plan (length room) ≡ runOf (call (asked .job) (shape .rounds)) plan =
+      planned-past asked plan (length room) (gives _ _ g) ∙ ap (λ (a : Call). runOf a plan) (same-call asked shape (sym is′ ∙ taken)) in
       rw is (carried .answers, carried .writes)
 
 -- ---- The run
 
 -- The row that was copied begins with the draws, and has a place for each.
-module _ (asked : Call) (shape : Shape) (row : List ℕ) (within : Limits asked shape) (copied : row ≡ rowOf (shape .slots) (shape .draws) (asked .job)) where
+module _ (asked : Call) (shape : Unrolled) (row : List ℕ) (within : Limits asked shape) (copied : row ≡ rowOf asked) where
   pub row-draws : drawsOf asked ≡ take (shape .draws) row
-  row-draws =
-      sym
-      (ap (λ (r : List ℕ). take (shape .draws) r) copied
-      ∙ row-front (shape .slots) (shape .draws) (asked .job)
-      ∙ ap (λ (s : Shape). symbols (s .draws) (drop (draws-at (s .slots)) (asked .job))) (within .shaped))
+  row-draws = sym (ap (λ (r : List ℕ). take (shape .draws) r) copied ∙ row-front asked (shape .draws) (within .many-draws))
 
   pub row-size : length (take (shape .draws) row) ≡ shape .draws
   row-size = ap length (sym row-draws) ∙ within .many-draws
@@ -83,7 +87,7 @@ last-in-time : (s : State) → s .rest ≡ [] → inTime (going s) ≡ going s
 last-in-time s e = ap (λ (l : List ℕ). cond (finished l) (going s) (refused 15 0)) e
 
 -- A run that ended is over in time, and its loads are those of the rules.
-module _ (asked : Call) (shape : Shape) (taken : readJob (asked .job) ≡ Taken shape) (plan : ℕ) (r : Ran) (held : List ℕ) (h : History)
+module _ (asked : Call) (shape : Unrolled) (taken : readCall asked ≡ Taken shape) (plan : ℕ) (r : Ran) (held : List ℕ) (h : History)
     (ends : runOf asked plan ≡ cond (r .over) (going (view held h (r .display))) (refused 15 0)) where
   done : Done (jobOf asked) (ruleOf (jobOf asked) plan) Any
   done = plan-done (jobOf asked) (proper asked shape taken) plan
@@ -104,7 +108,7 @@ module _ (asked : Call) (shape : Shape) (taken : readJob (asked .job) ≡ Taken 
   begun-by-plan : h .begun ≡ begunIn (runPlan (jobOf asked) (ruleOf (jobOf asked) plan))
   begun-by-plan = ap (λ (s : State). s .begun) last-view ∙ ap begunIn (sym (done .ran))
 
-module _ (asked : Call) (shape : Shape) (taken : readJob (asked .job) ≡ Taken shape) (plan : ℕ) (r : Ran) (loads : List ℕ)
+module _ (asked : Call) (shape : Unrolled) (taken : readCall asked ≡ Taken shape) (plan : ℕ) (r : Ran) (loads : List ℕ)
     (run : Ended plan asked r loads) where
   pub few-loads : r .display .loads ≤ most-draws
   few-loads =

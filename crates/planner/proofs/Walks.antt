@@ -1,5 +1,5 @@
 -- The run of a plan, tick by tick: the rule it goes by, the waits passed over, and what the loop of the code keeps.
-use Prim.Native.Nat.{ℕ, zero, suc, _+_, _-_, _<_, _≤_, _*_}
+use Prim.Native.Nat.{ℕ, zero, suc, _+_, _-_, _<_, _≤_, _*_, _%_}
 use native.Mathlib.Omega.{arith}
 use mathlib.Core.Path.{_≡_, refl, sym, ap, _∙_}
 use mathlib.Core.Bool.{true, false, cond}
@@ -9,7 +9,7 @@ use lib.Dec.{leb}
 use borrow.Author.Tests.{eq-eqb, le-leb, lt-leb}
 use Rattle.rules.specs.declared.MaybeLoad.{MaybeLoad}
 use Rattle.rules.specs.declared.MaybeLoad.the-variants.{NoLoad}
-use Rattle.rules.specs.declared.Shape.{Shape}
+use Rattle.rules.specs.declared.Unrolled.{Unrolled}
 use Rattle.rules.specs.Basics.{number16}
 use Rattle.rules.specs.Job.{Job, Call, startingSymbols, drawsOf, draws-at, jobOf}
 use Rattle.rules.specs.LoadList.{last-tick}
@@ -59,11 +59,11 @@ ruled plan job order held held′ d r ordered ticks =
     }
 
 -- What is asked for with the landed display at hand is what the plan asks for in its state.
-pub asked-landed : {asked : Call} {shape : Shape} (plan : ℕ) (order : Order) (row held : List ℕ) (d l : Display) (symbol : ℕ) (load : MaybeLoad)
+pub asked-landed : {asked : Call} {shape : Unrolled} (plan : ℕ) (order : Order) (row held : List ℕ) (d l : Display) (symbol : ℕ) (load : MaybeLoad)
     → Limits asked shape
     → LandKeeps d l
     → d .next < shape .draws
-    → symbol ≡ number16 (asked .job) (draws-at (shape .slots) + 2 * l .next)
+    → symbol ≡ number16 (asked .job) (draws-at (shape .slots) + 2 * (l .next % shape .round))
     → jobOf asked .slots ≡ length held
     → drawsOf asked ≡ row
     → Asked plan held row l symbol order load

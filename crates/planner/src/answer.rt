@@ -6,9 +6,9 @@ use choice::row_of;
 use display::accepted;
 use display::refusal;
 use rules::Answer;
-use rules::JobReading;
+use rules::CallReading;
 use rules::MOST_DRAWS;
-use rules::Shape;
+use rules::Unrolled;
 ghost use mathlib.Core.Path.{_≡_};
 ghost use Prim.Native.Nat.{_+_, _*_};
 ghost use lib.ListN.{length};
@@ -23,13 +23,13 @@ ghost use Rattle.planner.specs.Runs.{HasPlaces, Prepared, Ended, HasRoom
 fn run_from_start(
     plan: u32,
     job: &[u8],
-    shape: Shape,
+    shape: Unrolled,
     row: &[u16],
     orders: u32,
     loads: &mut [u64],
 ) -> Ran
-    requires { ⌜ Prepared plan (call (now job)) shape (now row) orders (now loads) ⌝ }
-    ensures { λ r. ⌜ Ended plan (call (now (job .entry))) r (now (loads .exit)) ⌝ }
+    requires { ⌜ Prepared plan (call (now job) (shape .rounds)) shape (now row) orders (now loads) ⌝ }
+    ensures { λ r. ⌜ Ended plan (call (now (job .entry)) (shape .rounds)) r (now (loads .exit)) ⌝ }
 {
     let mut held = sheet::starting_slots(job, shape.slots);
     let slots = shape.slots as usize;
@@ -37,12 +37,12 @@ fn run_from_start(
 }
 
 // The run of a plan of a job that was taken. Conservative works off the loads of opt, so opt runs first.
-fn run_of(plan: u32, job: &[u8], shape: Shape, loads: &mut [u64]) -> Ran
-    requires { ⌜ HasPlaces (call (now job)) shape (now loads) ⌝ }
-    ensures { λ r. ⌜ Ended plan (call (now (job .entry))) r (now (loads .exit)) ⌝ }
+fn run_of(plan: u32, job: &[u8], shape: Unrolled, loads: &mut [u64]) -> Ran
+    requires { ⌜ HasPlaces (call (now job) (shape .rounds)) shape (now loads) ⌝ }
+    ensures { λ r. ⌜ Ended plan (call (now (job .entry)) (shape .rounds)) r (now (loads .exit)) ⌝ }
 {
     let draws = shape.draws as usize;
-    let all = row_of(job, shape.slots, shape.draws);
+    let all = row_of(job, shape);
     let row = &all[..draws];
     if plan != 1 {
         return run_from_start(plan, job, shape, row, 0, loads);
@@ -67,9 +67,9 @@ fn short_room(draws: u16, room: usize) -> bool
 }
 
 // The run of a plan of a job that was taken, and its list in room enough. Nothing is written before the last refusal is past.
-fn carry_out(job: &[u8], shape: Shape, plan: u32, room: &mut [u8]) -> Answer
-    requires { ⌜ HasRoom (call (now job)) shape (now room) ⌝ }
-    ensures { λ r. ⌜ CarriedOut (call (now (job .entry))) plan r (now (room .entry)) (now (room .exit)) ⌝ }
+fn carry_out(job: &[u8], shape: Unrolled, plan: u32, room: &mut [u8]) -> Answer
+    requires { ⌜ HasRoom (call (now job) (shape .rounds)) shape (now room) ⌝ }
+    ensures { λ r. ⌜ CarriedOut (call (now (job .entry)) (shape .rounds)) plan r (now (room .entry)) (now (room .exit)) ⌝ }
 {
     let mut loads = [0; MOST_DRAWS as usize];
     let ran = run_of(plan, job, shape, &mut loads);
@@ -81,14 +81,14 @@ fn carry_out(job: &[u8], shape: Shape, plan: u32, room: &mut [u8]) -> Answer
     refusal(15, 0)
 }
 
-// Plans the job and writes the list from the room's first byte on. Where the plan is refused, the room is as it was.
-pub fn plan(job: &[u8], plan: u32, room: &mut [u8]) -> Answer
-    ensures answers { λ r. ⌜ r ≡ answerOf (planned (call (now (job .entry))) plan (length (now (room .entry)))) ⌝ }
-    ensures writes { λ r. ⌜ now (room .exit) ≡ lent (writtenBy (planned (call (now (job .entry))) plan (length (now (room .entry))))) (now (room .entry)) ⌝ }
+// Plans this many rounds of the job and writes the list from the room's first byte on. Where the plan is refused, the room is as it was.
+pub fn plan(job: &[u8], plan: u32, rounds: u32, room: &mut [u8]) -> Answer
+    ensures answers { λ r. ⌜ r ≡ answerOf (planned (call (now (job .entry)) rounds) plan (length (now (room .entry)))) ⌝ }
+    ensures writes { λ r. ⌜ now (room .exit) ≡ lent (writtenBy (planned (call (now (job .entry)) rounds) plan (length (now (room .entry))))) (now (room .entry)) ⌝ }
 {
-    let reading = sheet::read_job(job);
-    let JobReading::Taken(shape) = reading else {
-        return refusal(sheet::job_number(reading), 0);
+    let reading = sheet::read_call(job, rounds);
+    let CallReading::Taken(shape) = reading else {
+        return refusal(sheet::call_number(reading), 0);
     };
     if unknown(plan) {
         return refusal(6, 0);

@@ -16,7 +16,7 @@ use display::smaller;
 use display::start;
 use rules::Happening;
 use rules::LAST_TICK;
-use rules::Shape;
+use rules::Unrolled;
 ghost use Rattle.rules.specs.Job.{call, jobOf};
 ghost use Rattle.rules.specs.LoadList.{last-tick};
 ghost use Rattle.rules.specs.Plans.{asking};
@@ -29,17 +29,17 @@ ghost use Rattle.planner.specs.Runs.{BeforeTick, LoadUnderWay, FromStart
 fn plan_tick(
     plan: u32,
     job: &[u8],
-    shape: Shape,
+    shape: Unrolled,
     row: &[u16],
     held: &mut [u16],
     d: Display,
     order: Order,
 ) -> Ticked
-    requires { ⌜ BeforeTick (call (now job)) shape (now row) (now held) d ⌝ }
-    ensures { λ r. ⌜ Ticks (jobOf (call (now (job .entry)))) (asking (asksBy plan (jobOf (call (now (job .entry)))) order)) (now (held .entry)) (now (held .exit)) d r ⌝ }
+    requires { ⌜ BeforeTick (call (now job) (shape .rounds)) shape (now row) (now held) d ⌝ }
+    ensures { λ r. ⌜ Ticks (jobOf (call (now (job .entry)) (shape .rounds))) (asking (asksBy plan (jobOf (call (now (job .entry)) (shape .rounds))) order)) (now (held .entry)) (now (held .exit)) d r ⌝ }
 {
     let landed = land(held, d);
-    let symbol = sheet::draw_symbol(job, shape.slots, landed.next);
+    let symbol = sheet::draw_symbol(job, shape, landed.next);
     let asked = asked_of(plan, held, landed, row, symbol, order);
     let number = load_refusal(held, landed, asked);
     if number != 0 {
@@ -73,14 +73,14 @@ pub struct Ran {
 pub fn run_plan(
     plan: u32,
     job: &[u8],
-    shape: Shape,
+    shape: Unrolled,
     row: &[u16],
     held: &mut [u16],
     orders: u32,
     loads: &mut [u64],
 ) -> Ran
-    requires { ⌜ FromStart plan (call (now job)) shape (now row) (now held) orders (now loads) ⌝ }
-    ensures { λ r. ⌜ Ended plan (call (now (job .entry))) r (now (loads .exit)) ⌝ }
+    requires { ⌜ FromStart plan (call (now job) (shape .rounds)) shape (now row) (now held) orders (now loads) ⌝ }
+    ensures { λ r. ⌜ Ended plan (call (now (job .entry)) (shape .rounds)) r (now (loads .exit)) ⌝ }
 {
     let mut d = start();
     loop {

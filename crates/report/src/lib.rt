@@ -1,7 +1,9 @@
-// What the programs share: saying numbers, answers and refusals on a descriptor, and reading a file that an argument names.
+// What the programs share: saying numbers, answers and refusals on a descriptor, reading the file that an argument names, and the
+// number of rounds that one names.
 // No program says or reads any of this in words of its own. What calls the library belongs into plan_report or into a program.
 mod file;
 mod line;
+mod rounds;
 mod words;
 
 pub use file::Reading;
@@ -11,4 +13,6 @@ pub use line::say;
 pub use line::say_counts;
 pub use line::say_number;
 pub use line::say_refusal;
+pub use rounds::RoundsReading;
+pub use rounds::rounds_argument;
 pub use words::say_words;

@@ -32,7 +32,7 @@ fn say_whole(to: i32, number: u32) -> bool {
     }
 }
 
-// Refusals 8 to 16, of a list, a run or a text.
+// Refusals 8 to 17, of a list, a run, a text or the number of rounds.
 fn say_run(to: i32, number: u32, detail: u32) -> bool {
     match number {
         8 => say(
@@ -70,6 +70,10 @@ fn say_run(to: i32, number: u32, detail: u32) -> bool {
             b"line",
             detail,
             b" is not tick, slot and symbol in decimal with one blank between and a line feed, or its slot is over 255, its symbol over 65535, or it is one line too many\n",
+        ),
+        17 => say(
+            to,
+            b"the number of rounds is 0, or all rounds together have more than 4,096 draws\n",
         ),
         _ => say(to, b"the plan would take more than 8,388,607 ticks\n"),
     }

@@ -1,9 +1,10 @@
 -- The job as bytes: the places of its numbers and of its symbols; and the job of the model, read from what a call asks.
--- (Document 01, "The job, byte for byte", first half)
+-- (Document 01, "The job, byte for byte", first half; rounds: document 02, Five)
 use Prim.Native.Nat.{ℕ, zero, suc, _+_, _*_}
-use mathlib.Core.List.{List, [], _∷_}
+use mathlib.Core.List.{List, [], _∷_, _++_}
 use lib.ListN.{getD, drop}
 use Rattle.rules.specs.declared.Shape.{Shape}
+use Rattle.rules.specs.declared.Unrolled.{Unrolled}
 use Rattle.rules.specs.Basics.{number16}
 
 -- The number that marks a slot with no symbol in it. No symbol has it.
@@ -43,16 +44,37 @@ startingSymbols job = symbols (shapeOf job .slots) (drop starting-at job)
 abbrev pub drawnSymbols : List ℕ → List ℕ
 drawnSymbols job = symbols (shapeOf job .draws) (drop (draws-at (shapeOf job .slots)) job)
 
--- What a plan and a check are asked about: the bytes of a job.
+-- What a plan and a check are asked about: the bytes of a job, and how many rounds of its sheet are drawn. (Document 02, Five)
 pub record Call : Type 0 where
   pub job : List ℕ
+  pub rounds : ℕ
 
-abbrev pub call : List ℕ → Call
-call job = record { job = job }
+abbrev pub call : List ℕ → ℕ → Call
+call job rounds = record { job = job; rounds = rounds }
 
--- The draws that a call speaks of: those of its sheet, once.
+-- A row of draws this many times over, round after round. An empty row stays empty, however often it is drawn.
+unfoldable pub timesOver : ℕ → List ℕ → List ℕ
+timesOver rounds [] = []
+timesOver zero (x ∷ row) = []
+timesOver (suc rounds) (x ∷ row) = (x ∷ row) ++ timesOver rounds (x ∷ row)
+
+-- The draws that a call speaks of: those of its sheet, in all rounds.
 abbrev pub drawsOf : Call → List ℕ
-drawsOf asked = drawnSymbols (asked .job)
+drawsOf asked = timesOver (asked .rounds) (drawnSymbols (asked .job))
+
+-- The size of a job in rounds: its slots k and its load time F, the rounds r, the n draws of one round, and r times n in all.
+abbrev pub inRounds : ℕ → Shape → Unrolled
+inRounds rounds shape =
+    record {
+      slots = shape .slots;
+      «load_time» = shape .«load_time»;
+      rounds = rounds;
+      round = shape .draws;
+      draws = rounds * shape .draws;
+    }
+
+abbrev pub unrolled : Call → Unrolled
+unrolled asked = inRounds (asked .rounds) (shapeOf (asked .job))
 
 -- A job as the display meets it: the number of slots, the ticks that a load takes, what each slot holds at the start, and the draws.
 pub record Job : Type 0 where

@@ -7,16 +7,18 @@ use lib.Dec.{eqb, ltb, leb}
 use Rattle.rules.specs.declared.Answer.{Answer}
 use Rattle.rules.specs.declared.MaybeLoad.{MaybeLoad}
 use Rattle.rules.specs.declared.MaybeLoad.the-variants.{Load, NoLoad}
-use Rattle.rules.specs.declared.JobReading.{JobReading}
-use Rattle.rules.specs.declared.JobReading.the-variants.{Taken, Refused}
+use Rattle.rules.specs.declared.CallReading.{CallReading}
+use Rattle.rules.specs.declared.CallReading.the-variants.{Taken, Refused}
 use Rattle.rules.specs.declared.EventReading.{EventReading}
 use Rattle.rules.specs.declared.EventReading.the-variants as reading
 use Rattle.rules.specs.declared.ListReading.{ListReading}
 use Rattle.rules.specs.declared.ListReading.the-variants.{Listed, Unreadable}
 use Rattle.rules.specs.declared.Shape.{Shape}
+use Rattle.rules.specs.declared.Unrolled.{Unrolled}
 use Rattle.rules.specs.Basics.{stands, number32, bytes32}
 use Rattle.rules.specs.Order.{Test, test, Verdict, clear, met, firstOf}
-use Rattle.rules.specs.Job.{Job, Call, free, most-slots, most-load-time, most-draws, shapeOf, startingSymbols, drawnSymbols, drawsOf, jobOf}
+use Rattle.rules.specs.Job.{Job, Call, free, most-slots, most-load-time, most-draws, shapeOf, startingSymbols, drawnSymbols, drawsOf}
+use Rattle.rules.specs.Job.{unrolled, jobOf}
 use Rattle.rules.specs.LoadList.{Event, event, most-events, last-tick, head-size, event-size, countOf, eventsOf, listBytes}
 use Rattle.rules.specs.Display.{State, Run, Rule, Drawn, drawn, Loaded, loaded, going, refused, unless, then, start, finished, run}
 use Rattle.rules.specs.Plans.{last-plan, ruleOf, runPlan}
@@ -62,18 +64,28 @@ jobTests job =
     ∷ test 5 0 (badSymbols (startingSymbols job) (drawnSymbols job))
     ∷ []
 
--- A job is taken with its shape, or refused with the number of the first of these tests that holds. The detail of each is 0.
-abbrev pub readAs : Verdict → Shape → JobReading
-readAs clear shape = Taken shape
-readAs (met number detail) shape = Refused number
+-- ---- A job in rounds: refusal 17 (document 02, Five)
 
-abbrev pub readJob : List ℕ → JobReading
-readJob job = readAs (firstOf (jobTests job)) (shapeOf job)
+-- 17. No round, or more draws in all rounds than a job may have. A sheet with no draws may be drawn any number of times.
+unfoldable pub badRounds : Call → Bool
+badRounds asked = ltb (asked .rounds) 1 || ltb most-draws (unrolled asked .draws)
 
--- Document 01's number for what reading a job found.
-abbrev pub jobNumber : JobReading → ℕ
-jobNumber (Taken shape) = 0
-jobNumber (Refused number) = number
+-- The order for what a call asks about: that of the job, then 17.
+unfoldable pub callTests : Call → List Test
+callTests asked = jobTests (asked .job) ++ (test 17 0 (badRounds asked) ∷ [])
+
+-- It is taken with its size, or refused with the number of the first of these tests that holds. The detail of each is 0.
+abbrev pub readAs : Verdict → Unrolled → CallReading
+readAs clear size = Taken size
+readAs (met number detail) size = Refused number
+
+abbrev pub readCall : Call → CallReading
+readCall asked = readAs (firstOf (callTests asked)) (unrolled asked)
+
+-- Document 01's number for what reading a call found.
+abbrev pub callNumber : CallReading → ℕ
+callNumber (Taken size) = 0
+callNumber (Refused number) = number
 
 -- ---- A load list: refusals 8 and 9
 
@@ -137,11 +149,11 @@ follows job events = then (run job (follow events) (mostTicks job) (start job)) 
 unfoldable pub shortCheck : Call → ℕ → ℕ → Bool
 shortCheck asked ticks slots = ltb ticks (length (drawsOf asked)) || ltb slots (length (drawsOf asked))
 
--- The order for a check before time begins: 1 to 5, then 8, 7, and 9 over the whole list, with the first event out of order.
+-- The order for a check before time begins: 1 to 5, 17, then 8, 7, and 9 over the whole list, with the first event out of order.
 -- It goes by what is asked, the bytes of the list, and the places lent for ticks and for slots.
 abbrev pub checkTests : Call → List ℕ → ℕ → ℕ → List Test
 checkTests asked list ticks slots =
-    jobTests (asked .job)
+    callTests asked
     ++ (test 8 0 (badList list)
     ∷ test 7 0 (shortCheck asked ticks slots)
     ∷ tickTest (eventsOf list)
@@ -149,7 +161,7 @@ checkTests asked list ticks slots =
 
 -- Where none of these holds, 10 to 14 come as time meets them.
 unfoldable pub checked : Call → List ℕ → ℕ → ℕ → Run
-unfolding firstOf jobTests shortCheck
+unfolding firstOf jobTests callTests badRounds shortCheck
 checked asked list ticks slots =
     unless (firstOf (checkTests asked list ticks slots)) (follows (jobOf asked) (eventsOf list))
 
@@ -164,17 +176,13 @@ abbrev pub inTime : Run → Run
 inTime (going s) = cond (finished (s .rest)) (going s) (refused 15 0)
 inTime (refused number detail) = refused 15 0
 
--- The order for a plan before its run: 1 to 5, then 6, 7. It goes by what is asked, the plan's number and the room lent.
+-- The order for a plan before its run: 1 to 5, 17, then 6, 7. It goes by what is asked, the plan's number and the room lent.
 abbrev pub planTests : Call → ℕ → ℕ → List Test
-planTests asked plan room =
-    jobTests (asked .job)
-    ++ (test 6 0 (ltb last-plan plan)
-    ∷ test 7 0 (shortPlan asked room)
-    ∷ [])
+planTests asked plan room = callTests asked ++ (test 6 0 (ltb last-plan plan) ∷ test 7 0 (shortPlan asked room) ∷ [])
 
 -- Where none of these holds, 15 is left.
 unfoldable pub planned : Call → ℕ → ℕ → Run
-unfolding firstOf jobTests shortPlan
+unfolding firstOf jobTests callTests badRounds shortPlan
 planned asked plan room =
     unless (firstOf (planTests asked plan room)) (inTime (runPlan (jobOf asked) (ruleOf (jobOf asked) plan)))
 

@@ -4,17 +4,17 @@ use Prim.Native.Nat.{ℕ, zero, suc}
 use mathlib.Core.Path.{_≡_, refl}
 use mathlib.Core.List.{List, [], _∷_, _++_, map}
 use Rattle.rules.specs.Basics.{place}
-use Rattle.rules.specs.Job.{symbols}
+use Rattle.rules.specs.Job.{symbols, timesOver}
 use Rattle.rules.specs.LoadList.{eventsIn, eventsBytes}
 use Rattle.rules.specs.Display.{run, tick, beginning, happened}
 use Rattle.rules.specs.Plans.{missing, ranksFrom, greatest}
-use Rattle.rules.specs.Refusals.{checked, planned, due, firstBadTick, doubled, jobTests, tickBytes}
+use Rattle.rules.specs.Refusals.{checked, planned, due, firstBadTick, doubled, jobTests, callTests, badRounds, tickBytes}
 use Rattle.rules.specs.Worked.{Row, row, found, expected, accepts, refuses, planning, checking}
 use Rattle.rules.specs.Worked.{symbolBytes, jobFields, jobBytes, listFields, loads, load}
 use Rattle.rules.specs.Worked.{job-a, job-c, recordsFound}
 use Rattle.rules.specs.Worked.{plan, list, check, ticks, slots, check-for-c, room-later, ticks-later, slots-later, ticks-for-c-later}
 use Rattle.rules.specs.Worked.{plan-records, check-records, job-number, shape, symbols-in, limits, list-number, bad-tick, event-at, load-number}
-use Rattle.rules.specs.Worked.{number-two, number-four, head-put, event-put, put-number}
+use Rattle.rules.specs.Worked.{number-two, number-four, head-put, event-put, put-number, rounds-number, draws-in, in-rounds}
 
 -- One byte over and over.
 unfoldable pub filled : (count byte : ℕ) → List ℕ
@@ -444,6 +444,77 @@ telling-ties =
     ∷ listing (jobBytes 3 (1 ∷ 2 ∷ 9 ∷ []) (2 ∷ 1 ∷ 4 ∷ 5 ∷ [])) 1 (loads 2 (load 0 2 4 ++ load 3 1 5))
     ∷ []
 
+-- ---- Document 02, Five: sheets that are redrawn
+
+-- One round never draws symbol 1 again once symbol 3 is missing, and two rounds do.
+abbrev pub job-redrawn : List ℕ
+job-redrawn = jobBytes 1 (1 ∷ 2 ∷ []) (1 ∷ 2 ∷ 3 ∷ [])
+
+-- The list of conservative for job a, twice round.
+abbrev pub list-twice : List ℕ
+list-twice = loads 3 (load 2 1 3 ++ load 9 0 2 ++ load 14 0 1)
+
+abbrev pub twice : (plan : ℕ) (answer : List ℕ) → Row
+twice p answer = row (in-rounds 2 (plan job-a p 77)) answer
+
+abbrev pub listing-twice : (job : List ℕ) (plan : ℕ) (loads : List ℕ) → Row
+listing-twice job p answer = row (in-rounds 2 (list job p 77)) answer
+
+unfoldable pub telling-rounds : List Row
+telling-rounds =
+    -- The draws are those of the sheet, round after round.
+    row (in-rounds 3 (draws-in job-redrawn)) (1 ∷ 2 ∷ 3 ∷ 1 ∷ 2 ∷ 3 ∷ 1 ∷ 2 ∷ 3 ∷ [])
+    ∷ row (draws-in job-redrawn) (1 ∷ 2 ∷ 3 ∷ [])
+    ∷ row (in-rounds 0 (draws-in job-redrawn)) []
+    -- 17: at least one round, and at most 4,096 draws in all, also where the product has more than 32 bits.
+    ∷ row (in-rounds 0 (rounds-number job-a)) (17 ∷ 17 ∷ [])
+    ∷ row (in-rounds 1 (rounds-number job-a)) (0 ∷ 2 ∷ 4 ∷ 1 ∷ 4 ∷ 4 ∷ [])
+    ∷ row (in-rounds 1024 (rounds-number job-a)) (0 ∷ 2 ∷ 4 ∷ 1024 ∷ 4 ∷ 4096 ∷ [])
+    ∷ row (in-rounds 1025 (rounds-number job-a)) (17 ∷ 17 ∷ [])
+    ∷ row (in-rounds 1073741824 (rounds-number job-a)) (17 ∷ 17 ∷ [])
+    ∷ row (in-rounds 4096 (rounds-number (jobBytes 1 (7 ∷ []) (7 ∷ [])))) (0 ∷ 1 ∷ 1 ∷ 4096 ∷ 1 ∷ 4096 ∷ [])
+    ∷ row (in-rounds 4097 (rounds-number (jobBytes 1 (7 ∷ []) (7 ∷ [])))) (17 ∷ 17 ∷ [])
+    ∷ row (in-rounds 4294967295 (rounds-number (jobBytes 1 (7 ∷ []) (7 ∷ [])))) (17 ∷ 17 ∷ [])
+    -- A sheet with no draws may be drawn any number of times but 0.
+    ∷ row (in-rounds 4294967295 (plan job-none 0 7)) (accepts 0 0 0 0)
+    ∷ row (in-rounds 4294967295 (check job-none (loads 0 []) 0 0)) (accepts 0 0 0 0)
+    ∷ row (in-rounds 0 (plan job-none 0 7)) (refuses 17 0)
+    -- The order: 5 before 17, 17 before 6 and 7 of a plan, and before 8 and 7 of a check.
+    ∷ row (in-rounds 0 (plan (jobBytes 1 (5 ∷ 5 ∷ []) []) 0 7)) (refuses 5 0)
+    ∷ row (in-rounds 0 (plan job-a 4 77)) (refuses 17 0)
+    ∷ row (in-rounds 0 (plan job-a 0 0)) (refuses 17 0)
+    ∷ row (in-rounds 1025 (check job-a [] 0 0)) (refuses 17 0)
+    ∷ row (in-rounds 1025 (check job-a (loads 0 []) 0 0)) (refuses 17 0)
+    ∷ row (in-rounds 0 (check (jobFields 6 1 1 1 0 []) [] 0 0)) (refuses 4 0)
+    -- Room and places are for the draws of all rounds.
+    ∷ row (in-rounds 2 (plan job-a 1 63)) (accepts 19 11 3 4)
+    ∷ row (in-rounds 2 (plan job-a 1 62)) (refuses 7 0)
+    ∷ row (in-rounds 2 (check job-a list-twice 8 8)) (accepts 19 11 3 4)
+    ∷ row (in-rounds 2 (check job-a list-twice 7 8)) (refuses 7 0)
+    ∷ row (in-rounds 2 (check job-a list-twice 8 7)) (refuses 7 0)
+    -- Row a twice round. The second round starts from what the first has left in the slots.
+    ∷ twice 0 (accepts 22 14 5 3)
+    ∷ twice 1 (accepts 19 11 3 4)
+    ∷ twice 2 (accepts 20 12 3 4)
+    ∷ twice 3 (accepts 28 20 5 4)
+    ∷ listing-twice job-a 0 (loads 5 (load 1 0 3 ++ load 5 1 1 ++ load 9 0 2 ++ load 13 1 3 ++ load 17 0 1))
+    ∷ listing-twice job-a 1 list-twice
+    ∷ listing-twice job-a 2 (loads 3 (load 2 1 3 ++ load 9 0 2 ++ load 15 0 1))
+    ∷ listing-twice job-a 3 (loads 5 (load 2 0 3 ++ load 7 1 1 ++ load 13 0 2 ++ load 18 1 3 ++ load 23 0 1))
+    ∷ row (in-rounds 2 (ticks job-a list-twice 8 8)) (0 ∷ 1 ∷ 6 ∷ 7 ∷ 8 ∷ 13 ∷ 14 ∷ 18 ∷ [])
+    ∷ row (in-rounds 2 (slots job-a list-twice 8 8)) (0 ∷ 1 ∷ 1 ∷ 0 ∷ 0 ∷ 0 ∷ 1 ∷ 0 ∷ [])
+    -- The list of one round is not enough for two, and one of two is too much for one: draw 5 is the second of round 1.
+    ∷ row (in-rounds 2 (check job-a (loads 1 (load 2 1 3)) 8 8)) (refuses 13 5)
+    ∷ row (check job-a list-twice 8 8) (refuses 14 1)
+    -- Rounds matter to opt: its first load goes into another slot.
+    ∷ listing job-redrawn 2 (loads 1 (load 2 0 3))
+    ∷ listing-twice job-redrawn 2 (loads 2 (load 2 1 3 ++ load 5 0 2))
+    -- 4,096 draws, as one round and as so many.
+    ∷ row (check (jobBytes 1 (7 ∷ []) (filled 4096 7)) (loads 0 []) 4096 4096) (accepts 4096 0 0 0)
+    ∷ row (in-rounds 4096 (check (jobBytes 1 (7 ∷ []) (7 ∷ [])) (loads 0 []) 4096 4096)) (accepts 4096 0 0 0)
+    ∷ row (in-rounds 2 (check (jobBytes 1 (7 ∷ []) (filled 4096 7)) (loads 0 []) 4096 4096)) (refuses 17 0)
+    ∷ []
+
 -- ---- "Refusal numbers": lent memory, and the bytes for C
 
 unfoldable pub telling-memory : List Row
@@ -475,7 +546,7 @@ unfolding telling-bytes filled symbols
 told-apart-bytes = refl
 
 pub told-apart-jobs : map found telling-jobs ≡ map expected telling-jobs
-unfolding telling-jobs filled symbolBytes planned checked jobTests place symbols doubled eventsIn
+unfolding telling-jobs filled symbolBytes planned checked jobTests place symbols timesOver doubled eventsIn
 told-apart-jobs = refl
 
 pub told-apart-lists : map found telling-lists ≡ map expected telling-lists
@@ -483,26 +554,31 @@ unfolding telling-lists filled eventsIn firstBadTick
 told-apart-lists = refl
 
 pub told-apart-checks : map found telling-checks ≡ map expected telling-checks
-unfolding telling-checks symbolBytes checked run tick beginning happened place symbols doubled eventsIn due firstBadTick
+unfolding telling-checks symbolBytes checked run tick beginning happened place symbols timesOver doubled eventsIn due firstBadTick
 told-apart-checks = refl
 
 pub told-apart-pauses : map found telling-pauses ≡ map expected telling-pauses
-unfolding telling-pauses symbolBytes checked run tick beginning happened place symbols doubled eventsIn due firstBadTick
+unfolding telling-pauses symbolBytes checked run tick beginning happened place symbols timesOver doubled eventsIn due firstBadTick
 told-apart-pauses = refl
 
 pub told-apart-records : map found telling-records ≡ map expected telling-records
-unfolding telling-records recordsFound symbolBytes run tick beginning happened place symbols missing ranksFrom greatest eventsIn due
+unfolding telling-records recordsFound symbolBytes run tick beginning happened place symbols timesOver missing ranksFrom greatest eventsIn due
 told-apart-records = refl
 
 pub told-apart-plans : map found telling-plans ≡ map expected telling-plans
-unfolding telling-plans symbolBytes planned run tick beginning happened place symbols doubled missing ranksFrom greatest eventsBytes
+unfolding telling-plans symbolBytes planned run tick beginning happened place symbols timesOver doubled missing ranksFrom greatest eventsBytes
 told-apart-plans = refl
 
 pub told-apart-ties : map found telling-ties ≡ map expected telling-ties
-unfolding telling-ties symbolBytes planned run tick beginning happened place symbols doubled missing ranksFrom greatest eventsBytes
+unfolding telling-ties symbolBytes planned run tick beginning happened place symbols timesOver doubled missing ranksFrom greatest eventsBytes
 told-apart-ties = refl
 
+pub told-apart-rounds : map found telling-rounds ≡ map expected telling-rounds
+unfolding telling-rounds filled symbolBytes planned checked jobTests callTests badRounds run tick beginning happened place symbols timesOver doubled
+    missing ranksFrom greatest eventsIn eventsBytes due firstBadTick
+told-apart-rounds = refl
+
 pub told-apart-memory : map found telling-memory ≡ map expected telling-memory
-unfolding telling-memory filled symbolBytes planned checked run tick beginning happened place symbols doubled ranksFrom greatest
+unfolding telling-memory filled symbolBytes planned checked run tick beginning happened place symbols timesOver doubled ranksFrom greatest
     missing eventsIn eventsBytes due firstBadTick tickBytes
 told-apart-memory = refl

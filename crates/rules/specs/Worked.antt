@@ -7,10 +7,9 @@ use mathlib.Core.Bool.{Bool, cond}
 use mathlib.Core.List.{List, [], _∷_, _++_, map}
 use lib.ListN.{length}
 use Rattle.rules.specs.declared.Answer.{Answer}
-use Rattle.rules.specs.declared.Written.{Written}
 use Rattle.rules.specs.declared.Shape.{Shape}
-use Rattle.rules.specs.declared.JobReading.{JobReading}
-use Rattle.rules.specs.declared.JobReading.the-variants.{Taken, Refused}
+use Rattle.rules.specs.declared.CallReading.{CallReading}
+use Rattle.rules.specs.declared.CallReading.the-variants.{Taken, Refused}
 use Rattle.rules.specs.declared.ListReading.{ListReading}
 use Rattle.rules.specs.declared.ListReading.the-variants.{Listed, Unreadable}
 use Rattle.rules.specs.declared.EventReading.{EventReading}
@@ -23,12 +22,12 @@ use Rattle.rules.specs.declared.Happening.{Happening}
 use Rattle.rules.specs.declared.Happening.the-variants.{Draw, Wait}
 use Rattle.rules.specs.declared.TickRecord.{TickRecord}
 use Rattle.rules.specs.Basics.{place, number16, number32}
-use Rattle.rules.specs.Job.{Job, symbols, call, shapeOf, startingSymbols, drawnSymbols, jobOf}
+use Rattle.rules.specs.Job.{Job, symbols, call, shapeOf, startingSymbols, drawnSymbols, drawsOf, timesOver, jobOf}
 use Rattle.rules.specs.LoadList.{event, readEvent, eventsIn, eventsOf, eventsBytes, putHead, putEvent, putNumber}
 use Rattle.rules.specs.Display.{State, Run, Rule, going, refused, start, loadRefusal, finished, run, tick, beginning, happened, asked, land, recordOf}
 use Rattle.rules.specs.Plans.{missing, ranksFrom, greatest, ruleOf}
-use Rattle.rules.specs.Refusals.{checked, checkedForC, planned, due, follow, firstBadTick, doubled, badLimits, readJob, jobNumber, readList}
-use Rattle.rules.specs.Refusals.{listNumber, eventNumber}
+use Rattle.rules.specs.Refusals.{checked, checkedForC, planned, due, follow, firstBadTick, doubled, badLimits, readList}
+use Rattle.rules.specs.Refusals.{listNumber, eventNumber, readCall, callNumber}
 use Rattle.rules.specs.Refusals.{answerOf, ticksOf, slotsOf, tickBytes, writtenBy, lent}
 use Rattle.rules.specs.Text.{Writing, writeText, readText, writtenOf, bytesOf}
 
@@ -96,6 +95,9 @@ load t q x = (0 ∷ t / 65536 ∷ t / 256 % 256 ∷ t % 256 ∷ q ∷ []) ++ two
 --     put-number                      the number that answers a put
 --     text-written, text-read         the answer of the writer and of the reader (number, detail, size), and the bytes that they write
 --     text-later, list-later          the lent room after the writer and after the reader
+--     rounds-number                   what reading a job with a number of rounds finds
+--     draws-in                        the draws of all rounds
+--     in-rounds                       the question of this many rounds
 pub data Question : Type 0 where
   plan list : (job : List ℕ) (plan room : ℕ) → Question
   check ticks slots check-for-c : (job list : List ℕ) (tick-places slot-places : ℕ) → Question
@@ -114,6 +116,8 @@ pub data Question : Type 0 where
   put-number : (at size : ℕ) (room : List ℕ) → Question
   text-written text-read : (bytes : List ℕ) (room : ℕ) → Question
   text-later list-later : (bytes room : List ℕ) → Question
+  rounds-number draws-in : (job : List ℕ) → Question
+  in-rounds : (rounds : ℕ) → Question → Question
 
 pub data Row : Type 0 where
   row : Question → List ℕ → Row
@@ -133,9 +137,14 @@ abbrev pub shapeNumbers : Shape → List ℕ
 shapeNumbers s = s .slots ∷ s .«load_time» ∷ s .draws ∷ []
 
 -- A job that is taken gives its shape, one that is refused its number; before either comes the number that answers for it.
-abbrev pub jobFound : JobReading → List ℕ
-jobFound (Taken s) = shapeNumbers s
+abbrev pub jobFound : CallReading → List ℕ
+jobFound (Taken s) = s .slots ∷ s .«load_time» ∷ s .round ∷ []
 jobFound (Refused number) = number ∷ []
+
+-- The same with the rounds, and with the draws of all of them.
+abbrev pub callFound : CallReading → List ℕ
+callFound (Taken s) = s .slots ∷ s .«load_time» ∷ s .rounds ∷ s .round ∷ s .draws ∷ []
+callFound (Refused number) = number ∷ []
 
 -- A list that can be read gives the number of its events, an event its tick, slot and symbol, and what cannot be read gives nothing.
 abbrev pub listFound : ListReading → List ℕ
@@ -183,36 +192,43 @@ recordsFound job rule (suc t) s =
 abbrev pub records : Job → Rule → List ℕ
 records job rule = recordsFound job rule 50 (start job)
 
+-- Plans and checks are asked of one round, unless a row says how many.
+abbrev pub answerIn : ℕ → Question → List ℕ
+answerIn r (plan job p room) = numbers (answerOf (planned (call job r) p room))
+answerIn r (list job p room) = writtenBy (planned (call job r) p room)
+answerIn r (check job l t s) = numbers (answerOf (checked (call job r) l t s))
+answerIn r (ticks job l t s) = ticksOf (checked (call job r) l t s)
+answerIn r (slots job l t s) = slotsOf (checked (call job r) l t s)
+answerIn r (check-for-c job l t s) = numbers (answerOf (checkedForC (call job r) l t s))
+answerIn r (room-later job p room) = lent (writtenBy (planned (call job r) p (length room))) room
+answerIn r (ticks-later job l t s) = lent (ticksOf (checked (call job r) l (length t) (length s))) t
+answerIn r (slots-later job l t s) = lent (slotsOf (checked (call job r) l (length t) (length s))) s
+answerIn r (ticks-for-c-later job l t s) = lent (tickBytes (ticksOf (checkedForC (call job r) l (length t) (length s)))) t
+answerIn r (plan-records job p) = records (jobOf (call job r)) (ruleOf (jobOf (call job r)) p)
+answerIn r (check-records job l) = records (jobOf (call job r)) (follow (eventsOf l))
+answerIn r (job-number job) = callNumber (readCall (call job r)) ∷ jobFound (readCall (call job r))
+answerIn r (shape job) = shapeNumbers (shapeOf job)
+answerIn r (symbols-in job) = startingSymbols job ++ drawnSymbols job
+answerIn r (limits k f n) = truth (badLimits (record { slots = k; «load_time» = f; draws = n }))
+answerIn r (list-number l) = listNumber (readList l) ∷ listFound (readList l)
+answerIn r (bad-tick l) = firstBadTick 0 (eventsOf l) ∷ []
+answerIn r (event-at part) = eventNumber (readEvent part) ∷ eventFound (readEvent part)
+answerIn r (load-number job q x) = loadRefusal (jobOf (call job r)) q x (start (jobOf (call job r))) ∷ []
+answerIn r (number-two b at) = number16 b at ∷ []
+answerIn r (number-four b at) = number32 b at ∷ []
+answerIn r (head-put m room) = putHead m room
+answerIn r (event-put i t q x room) = putEvent i (event t q x) room
+answerIn r (put-number at size room) = putNumber at size room ∷ []
+answerIn r (text-written l room) = writingFound (writeText l room)
+answerIn r (text-read t room) = writingFound (readText t room)
+answerIn r (text-later l room) = lent (bytesOf (writeText l (length room))) room
+answerIn r (list-later t room) = lent (bytesOf (readText t (length room))) room
+answerIn r (rounds-number job) = callNumber (readCall (call job r)) ∷ callFound (readCall (call job r))
+answerIn r (draws-in job) = drawsOf (call job r)
+answerIn r (in-rounds rounds question) = answerIn rounds question
+
 abbrev pub found : Row → List ℕ
-found (row (plan job p room) expected) = numbers (answerOf (planned (call job) p room))
-found (row (list job p room) expected) = writtenBy (planned (call job) p room)
-found (row (check job l t s) expected) = numbers (answerOf (checked (call job) l t s))
-found (row (ticks job l t s) expected) = ticksOf (checked (call job) l t s)
-found (row (slots job l t s) expected) = slotsOf (checked (call job) l t s)
-found (row (check-for-c job l t s) expected) = numbers (answerOf (checkedForC (call job) l t s))
-found (row (room-later job p room) expected) = lent (writtenBy (planned (call job) p (length room))) room
-found (row (ticks-later job l t s) expected) = lent (ticksOf (checked (call job) l (length t) (length s))) t
-found (row (slots-later job l t s) expected) = lent (slotsOf (checked (call job) l (length t) (length s))) s
-found (row (ticks-for-c-later job l t s) expected) = lent (tickBytes (ticksOf (checkedForC (call job) l (length t) (length s)))) t
-found (row (plan-records job p) expected) = records (jobOf (call job)) (ruleOf (jobOf (call job)) p)
-found (row (check-records job l) expected) = records (jobOf (call job)) (follow (eventsOf l))
-found (row (job-number job) expected) = jobNumber (readJob job) ∷ jobFound (readJob job)
-found (row (shape job) expected) = shapeNumbers (shapeOf job)
-found (row (symbols-in job) expected) = startingSymbols job ++ drawnSymbols job
-found (row (limits k f n) expected) = truth (badLimits (record { slots = k; «load_time» = f; draws = n }))
-found (row (list-number l) expected) = listNumber (readList l) ∷ listFound (readList l)
-found (row (bad-tick l) expected) = firstBadTick 0 (eventsOf l) ∷ []
-found (row (event-at part) expected) = eventNumber (readEvent part) ∷ eventFound (readEvent part)
-found (row (load-number job q x) expected) = loadRefusal (jobOf (call job)) q x (start (jobOf (call job))) ∷ []
-found (row (number-two b at) expected) = number16 b at ∷ []
-found (row (number-four b at) expected) = number32 b at ∷ []
-found (row (head-put m room) expected) = putHead m room
-found (row (event-put i t q x room) expected) = putEvent i (event t q x) room
-found (row (put-number at size room) expected) = putNumber at size room ∷ []
-found (row (text-written l room) expected) = writingFound (writeText l room)
-found (row (text-read t room) expected) = writingFound (readText t room)
-found (row (text-later l room) expected) = lent (bytesOf (writeText l (length room))) room
-found (row (list-later t room) expected) = lent (bytesOf (readText t (length room))) room
+found (row question answer) = answerIn 1 question
 
 abbrev pub expected : Row → List ℕ
 expected (row question answer) = answer
@@ -290,5 +306,6 @@ list-bytes = refl
 
 -- Every row of document 01's tables, proved of the definitions.
 pub worked : map found rows ≡ map expected rows
-unfolding rows symbolBytes planned checked run tick beginning happened place symbols doubled missing ranksFrom greatest eventsIn eventsBytes due firstBadTick
+unfolding rows symbolBytes planned checked run tick beginning happened place symbols timesOver doubled missing ranksFrom greatest eventsIn
+    eventsBytes due firstBadTick
 worked = refl

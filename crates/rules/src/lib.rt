@@ -23,9 +23,18 @@ pub struct Shape {
     pub draws: u16,
 }
 
-// What reading a job finds: its shape, or the number of its one refusal.
-pub enum JobReading {
-    Taken(Shape),
+// The size of what a call asks about: the slots and the load time of its job, the rounds, the draws of one round, and those of all.
+pub struct Unrolled {
+    pub slots: u8,
+    pub load_time: u16,
+    pub rounds: u32,
+    pub round: u16,
+    pub draws: u16,
+}
+
+// What reading a call finds: its size, or the number of its one refusal.
+pub enum CallReading {
+    Taken(Unrolled),
     Refused(u32),
 }
 

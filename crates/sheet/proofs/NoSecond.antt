@@ -2,11 +2,11 @@
 use mathlib.Core.Path.{refl}
 use Rattle.laws.specs.NoSecond.{NoSecond, Promise}
 use Rattle.laws.proofs.Same.{same}
-use Rattle.sheet.proofs.job.read_job as read-job
-use Rattle.sheet.proofs.job.job_number as job-number
 use Rattle.sheet.proofs.job.starting_symbol as starting-symbol
 use Rattle.sheet.proofs.job.starting_slots as starting-slots
-use Rattle.sheet.proofs.job.draw_symbol as draw-symbol
+use Rattle.sheet.proofs.job.read_call as read-call
+use Rattle.sheet.proofs.job.call_number as call-number
+use Rattle.sheet.proofs.rounds.draw_symbol as draw-symbol
 use Rattle.sheet.proofs.list.list_size as list-size
 use Rattle.sheet.proofs.list.read_list as read-list
 use Rattle.sheet.proofs.list.read_event as read-event
@@ -16,17 +16,17 @@ use Rattle.sheet.proofs.number.put_number32 as put-number32
 use Rattle.sheet.proofs.ticks.first_bad_tick as first-bad-tick
 use Rattle.sheet.proofs.walk.event_of as event-of
 
-pub read-job-promise : Promise read-job.ended read-job.Reads.Asked read-job.Reads.Learnt
-read-job-promise = record { any = λ κs given. tt; one = λ κs given answer answer′ left left′ asked p q. (same p q, refl) }
-
-pub job-number-promise : Promise job-number.ended job-number.Reads.Asked job-number.Reads.Learnt
-job-number-promise = record { any = λ κs given. tt; one = λ κs given answer answer′ left left′ asked p q. (same p q, refl) }
-
 pub starting-symbol-promise : Promise starting-symbol.ended starting-symbol.Reads.Asked starting-symbol.Reads.Learnt
 starting-symbol-promise = record { any = λ κs given. tt; one = λ κs given answer answer′ left left′ asked p q. (same p q, refl) }
 
 pub starting-slots-promise : Promise starting-slots.ended starting-slots.Reads.Asked starting-slots.Reads.Learnt
 starting-slots-promise = record { any = λ κs given. tt; one = λ κs given answer answer′ left left′ asked p q. (same p q, refl) }
+
+pub read-call-promise : Promise read-call.ended read-call.Reads.Asked read-call.Reads.Learnt
+read-call-promise = record { any = λ κs given. tt; one = λ κs given answer answer′ left left′ asked p q. (same p q, refl) }
+
+pub call-number-promise : Promise call-number.ended call-number.Reads.Asked call-number.Reads.Learnt
+call-number-promise = record { any = λ κs given. tt; one = λ κs given answer answer′ left left′ asked p q. (same p q, refl) }
 
 pub draw-symbol-promise : Promise draw-symbol.ended draw-symbol.Reads.Asked draw-symbol.Reads.Learnt
 draw-symbol-promise = record { any = λ κs given. tt; one = λ κs given answer answer′ left left′ asked p q. (same p q, refl) }

@@ -6,8 +6,9 @@ use mathlib.Core.List.{List, [], _∷_, _++_}
 use lib.ListN.{length, take, drop, set, replicate, length-replicate, length-append}
 use lib.Seq.{take-at, set-at, append-snoc}
 use Rattle.rules.specs.Basics.{number16}
-use Rattle.rules.specs.declared.Shape.{Shape}
-use Rattle.rules.specs.Job.{symbols, starting-at, free, shapeOf, startingSymbols}
+use Rattle.rules.specs.declared.Unrolled.{Unrolled}
+use Rattle.rules.specs.Job.{Call, symbols, starting-at, free, startingSymbols}
+use Rattle.laws.specs.Limits.{Limits}
 use Rattle.laws.proofs.Symbols.{length-symbols, number16-drop}
 use Rattle.sheet.specs.Row.{row64}
 
@@ -51,10 +52,10 @@ take-row k job h =
     let few : min k 64 ≡ k = omega arith in
     rw few (take-at (symbols k (drop 10 job)) (replicate (64 - k) free) k (length-symbols k (drop 10 job)))
 
--- The slots that a job of this shape uses hold its starting symbols.
-pub row-starts : (job : List ℕ) (shape : Shape) (row : List ℕ) → shape ≡ shapeOf job → shape .slots ≤ 64 → row ≡ row64 (shape .slots) job
-    → take (shape .slots) row ≡ startingSymbols job
-row-starts job shape row shaped few filled =
+-- The slots that a call of this size uses hold its starting symbols.
+pub row-starts : (asked : Call) (shape : Unrolled) (row : List ℕ) → Limits asked shape → row ≡ row64 (shape .slots) (asked .job)
+    → take (shape .slots) row ≡ startingSymbols (asked .job)
+row-starts asked shape row limits filled =
     ap (λ (l : List ℕ). take (shape .slots) l) filled
-    ∙ take-row (shape .slots) job few
-    ∙ ap (λ (s : Shape). symbols (s .slots) (drop starting-at job)) shaped
+    ∙ take-row (shape .slots) (asked .job) (limits .few-slots)
+    ∙ ap (λ (s : Unrolled). symbols (s .slots) (drop starting-at (asked .job))) (limits .shaped)

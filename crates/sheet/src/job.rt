@@ -1,11 +1,13 @@
-// Reading a job: its shape or its one refusal, and its symbols by place.
+// Reading what a call asks about, a job and its rounds: its size or its one refusal, and its starting symbols.
 use crate::number::byte_at;
 use crate::number::number16_at;
 use crate::number::number32_at;
+use crate::rounds::all_draws;
+use crate::rounds::in_rounds;
 use crate::row::doubled_in;
 use crate::row::stands_in;
+use rules::CallReading;
 use rules::FREE;
-use rules::JobReading;
 use rules::MOST_DRAWS;
 use rules::MOST_LOAD_TIME;
 use rules::MOST_SLOTS;
@@ -13,9 +15,9 @@ use rules::Shape;
 ghost use mathlib.Core.Path.{_≡_};
 ghost use Prim.Native.Nat.{_+_, _*_};
 ghost use Rattle.rules.specs.Basics.{number16};
-ghost use Rattle.rules.specs.Job.{shapeOf, startingSymbols, drawnSymbols, starting-at, draws-at};
+ghost use Rattle.rules.specs.Job.{call, shapeOf, startingSymbols, drawnSymbols, starting-at};
 ghost use Rattle.sheet.specs.Row.{row64};
-ghost use Rattle.rules.specs.Refusals.{readJob, jobNumber, badJobLength, badJobVersion, badLimits, badJobSize, badSymbols};
+ghost use Rattle.rules.specs.Refusals.{readCall, callNumber, badJobLength, badJobVersion, badLimits, badJobSize, badSymbols, badRounds};
 
 fn shape_of(job: &[u8]) -> Shape
     ensures { λ r. ⌜ r ≡ shapeOf (now (job .entry)) ⌝ }
@@ -83,26 +85,40 @@ fn bad_symbols(job: &[u8]) -> bool
     stands_in(job, 10 + 2 * shape.slots as u32, shape.draws, FREE)
 }
 
-// The job's shape, or the first refusal of 1 to 5 that it meets.
-pub fn read_job(job: &[u8]) -> JobReading
-    ensures { λ r. ⌜ r ≡ readJob (now (job .entry)) ⌝ }
+// 17. No round, or more draws in all rounds than a job may have.
+fn bad_rounds(job: &[u8], rounds: u32) -> bool
+    ensures { λ r. ⌜ r ≡ badRounds (call (now (job .entry)) rounds) ⌝ }
+{
+    let shape = shape_of(job);
+    if rounds < 1 {
+        return true;
+    }
+    (MOST_DRAWS as u64) < all_draws(rounds, shape.draws)
+}
+
+// The size of what a call asks about, or the first refusal of 1 to 5 and 17 that it meets.
+pub fn read_call(job: &[u8], rounds: u32) -> CallReading
+    ensures { λ r. ⌜ r ≡ readCall (call (now (job .entry)) rounds) ⌝ }
 {
     if bad_length(job) {
-        return JobReading::Refused(1);
+        return CallReading::Refused(1);
     }
     if bad_version(job) {
-        return JobReading::Refused(2);
+        return CallReading::Refused(2);
     }
     if bad_limits(job) {
-        return JobReading::Refused(3);
+        return CallReading::Refused(3);
     }
     if bad_size(job) {
-        return JobReading::Refused(4);
+        return CallReading::Refused(4);
     }
     if bad_symbols(job) {
-        return JobReading::Refused(5);
+        return CallReading::Refused(5);
     }
-    JobReading::Taken(shape_of(job))
+    if bad_rounds(job, rounds) {
+        return CallReading::Refused(17);
+    }
+    CallReading::Taken(in_rounds(shape_of(job), rounds))
 }
 
 // What a slot of the job holds at the start.
@@ -110,13 +126,6 @@ pub fn starting_symbol(job: &[u8], slot: u8) -> u16
     ensures { λ r. ⌜ r ≡ number16 (now (job .entry)) (starting-at + 2 * slot) ⌝ }
 {
     number16_at(job, 10 + 2 * slot as usize)
-}
-
-// The symbol of a draw, by its place, in a job of this many slots.
-pub fn draw_symbol(job: &[u8], slots: u8, draw: u16) -> u16
-    ensures { λ r. ⌜ r ≡ number16 (now (job .entry)) (draws-at slots + 2 * draw) ⌝ }
-{
-    number16_at(job, 10 + 2 * slots as usize + 2 * draw as usize)
 }
 
 // What each of the 64 slots of a display holds at the start of a job of this many slots.
@@ -135,12 +144,12 @@ pub fn starting_slots(job: &[u8], slots: u8) -> [u16; MOST_SLOTS as usize]
     row
 }
 
-// The number of the refusal that reading a job found; 0 where the job was taken.
-pub fn job_number(reading: JobReading) -> u32
-    ensures { λ r. ⌜ r ≡ jobNumber reading ⌝ }
+// The number of the refusal that reading a call found; 0 where it was taken.
+pub fn call_number(reading: CallReading) -> u32
+    ensures { λ r. ⌜ r ≡ callNumber reading ⌝ }
 {
     match reading {
-        JobReading::Taken(_) => 0,
-        JobReading::Refused(number) => number,
+        CallReading::Taken(_) => 0,
+        CallReading::Refused(number) => number,
     }
 }

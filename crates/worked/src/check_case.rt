@@ -39,10 +39,10 @@ fn say_slots(draws: u16, slots: &[u8; 4096]) {
     }
 }
 
-pub fn check_list(name: &[u8], job: &[u8], list: &[u8]) {
+pub fn check_rounds(name: &[u8], job: &[u8], list: &[u8], rounds: u32) {
     let mut ticks = [0u32; 4096];
     let mut slots = [0u8; 4096];
-    let checked = checker::check_draws(job, list, &mut ticks, &mut slots);
+    let checked = checker::check_draws(job, list, rounds, &mut ticks, &mut slots);
     let answer = checked.answer;
     say_answer(name, answer);
     if answer.number == 0 {
@@ -50,6 +50,11 @@ pub fn check_list(name: &[u8], job: &[u8], list: &[u8]) {
         say_slots(checked.draws, &slots);
     }
     say(STDOUT_FILENO, b"\n");
+}
+
+// The same of a sheet that is drawn once.
+pub fn check_list(name: &[u8], job: &[u8], list: &[u8]) {
+    check_rounds(name, job, list, 1);
 }
 
 // A list of one event.

@@ -10,7 +10,7 @@ use crate::make::put_job;
 use libc::STDOUT_FILENO;
 use report::say;
 
-const NO_EVENTS: [u8; 7] = [0, 0, 0, 3, 1, 0, 0];
+pub const NO_EVENTS: [u8; 7] = [0, 0, 0, 3, 1, 0, 0];
 
 fn event(tick: u32, slot: u8, symbol: u16) -> Event {
     Event { tick, slot, symbol }
@@ -176,19 +176,19 @@ pub fn short_rooms() {
     let mut four_slots = [0u8; 4];
     say_answer(
         b"check 7, ticks",
-        checker::check(&job, &NO_EVENTS, &mut three_ticks, &mut four_slots),
+        checker::check(&job, &NO_EVENTS, 1, &mut three_ticks, &mut four_slots),
     );
     say(STDOUT_FILENO, b"\n");
     let mut four_ticks = [0u32; 4];
     let mut three_slots = [0u8; 3];
     say_answer(
         b"check 7, slots",
-        checker::check(&job, &NO_EVENTS, &mut four_ticks, &mut three_slots),
+        checker::check(&job, &NO_EVENTS, 1, &mut four_ticks, &mut three_slots),
     );
     say(STDOUT_FILENO, b"\n");
     say_answer(
         b"check 8, before 7",
-        checker::check(&job, b"", &mut three_ticks, &mut three_slots),
+        checker::check(&job, b"", 1, &mut three_ticks, &mut three_slots),
     );
     say(STDOUT_FILENO, b"\n");
 }

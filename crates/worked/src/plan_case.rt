@@ -17,8 +17,8 @@ pub fn say_list(list: &[u8]) {
     say(STDOUT_FILENO, b" bytes");
 }
 
-pub fn plan_in(room: &mut [u8], name: &[u8], job: &[u8], plan: u32) {
-    let answer = planner::plan(job, plan, room);
+pub fn plan_in(room: &mut [u8], name: &[u8], job: &[u8], plan: u32, rounds: u32) {
+    let answer = planner::plan(job, plan, rounds, room);
     say_answer(name, answer);
     if answer.number == 0 {
         let end = io::count(sheet::list_size(answer.loads) as isize, room);
@@ -28,18 +28,27 @@ pub fn plan_in(room: &mut [u8], name: &[u8], job: &[u8], plan: u32) {
 }
 
 // The same in the room of the longest list.
-pub fn plan_job(name: &[u8], job: &[u8], plan: u32) {
+pub fn plan_rounds(name: &[u8], job: &[u8], plan: u32, rounds: u32) {
     let mut room = [0u8; 28679];
-    plan_in(&mut room, name, job, plan);
+    plan_in(&mut room, name, job, plan, rounds);
+}
+
+pub fn rounds_by_all(name: &[u8], job: &[u8], rounds: u32) {
+    say(STDOUT_FILENO, name);
+    plan_rounds(b", aggressive", job, 0, rounds);
+    say(STDOUT_FILENO, name);
+    plan_rounds(b", conservative", job, 1, rounds);
+    say(STDOUT_FILENO, name);
+    plan_rounds(b", opt", job, 2, rounds);
+    say(STDOUT_FILENO, name);
+    plan_rounds(b", lru", job, 3, rounds);
+}
+
+// Of a sheet that is drawn once.
+pub fn plan_job(name: &[u8], job: &[u8], plan: u32) {
+    plan_rounds(name, job, plan, 1);
 }
 
 pub fn plan_by_all(name: &[u8], job: &[u8]) {
-    say(STDOUT_FILENO, name);
-    plan_job(b", aggressive", job, 0);
-    say(STDOUT_FILENO, name);
-    plan_job(b", conservative", job, 1);
-    say(STDOUT_FILENO, name);
-    plan_job(b", opt", job, 2);
-    say(STDOUT_FILENO, name);
-    plan_job(b", lru", job, 3);
+    rounds_by_all(name, job, 1);
 }

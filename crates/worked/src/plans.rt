@@ -64,10 +64,10 @@ pub fn refused_calls() {
     plan_job(b"plan 6, number 4", &job, 4);
     plan_job(b"plan 6, number 4,294,967,295", &job, 4294967295);
     let mut short_room = [0u8; 34];
-    plan_in(&mut short_room, b"plan 7, 34 bytes", &job, 0);
-    plan_in(&mut short_room, b"plan 6, before 7", &job, 4);
+    plan_in(&mut short_room, b"plan 7, 34 bytes", &job, 0, 1);
+    plan_in(&mut short_room, b"plan 6, before 7", &job, 4, 1);
     let mut room = [0u8; 35];
-    plan_in(&mut room, b"plan in 35 bytes", &job, 0);
+    plan_in(&mut room, b"plan in 35 bytes", &job, 0, 1);
 }
 
 pub fn largest() {

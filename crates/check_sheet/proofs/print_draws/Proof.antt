@@ -5,13 +5,13 @@ use Rattle.check_sheet.proofs.print_draws.Statement.{statement}
 use Rattle.check_sheet.proofs.print_draws.Tie as tie
 
 abbrev Inv-loop : tie.InvT-loop
-Inv-loop job ticks slots shape draw₀ draw = Unit {0}
+Inv-loop job rounds ticks slots shape draw₀ draw = Unit {0}
 
 abbrev μ-loop : tie.MeasureT-loop
-μ-loop job ticks slots shape draw₀ draw = 4096 - draw
+μ-loop job rounds ticks slots shape draw₀ draw = 4096 - draw
 
-read-job-requires : tie.Need-read-job-requires Inv-loop μ-loop
-read-job-requires c κs = search needs
+read-call-requires : tie.Need-read-call-requires Inv-loop μ-loop
+read-call-requires c κs = search needs
 
 enum-known-reading : tie.Need-enum-known-reading Inv-loop μ-loop
 enum-known-reading c = search needs
@@ -70,7 +70,7 @@ print-draws-spec =
     (tie.spec
     Inv-loop
     μ-loop
-    read-job-requires
+    read-call-requires
     enum-known-reading
     enum-told
     returns

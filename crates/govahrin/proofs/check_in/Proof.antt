@@ -33,8 +33,8 @@ returns c =
     let a = at-start p .args in
     let k = p .check-draws in
     let (answers, (many, (at, from))) = k .ensures in
-    whole-row (call (a .job .now)) (a .list .now) (a .row .now) (k .last .1 .1 .0) (a .slots .now) (k .last .1 .1 .1 .0) (a .places) (k .result)
-    (at-start p .pre) (record { answers = answers; many = many; at = at; from = from })
+    whole-row (call (a .job .now) (a .rounds)) (a .list .now) (a .row .now) (k .last .1 .1 .1 .0) (a .slots .now) (k .last .1 .1 .1 .1 .0)
+    (a .places) (k .result) (at-start p .pre) (record { answers = answers; many = many; at = at; from = from })
 
 pub check-in-spec : {M : Type 1} → statement M
 check-in-spec =

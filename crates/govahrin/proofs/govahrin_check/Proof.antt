@@ -30,7 +30,7 @@ module _ (p : tie.After-check-in) where
   few : p .check-in .result .draws ≤ places
   few =
       let a = at-start .args in
-      few-draws (call (a .job .now)) (a .list .now) _ _ (a .slots .now) _ places (p .check-in .result) (p .check-in .ensures)
+      few-draws (call (a .job .now) (a .rounds)) (a .list .now) _ _ (a .slots .now) _ places (p .check-in .result) (p .check-in .ensures)
 
 slice-aggregate-put-ticks : tie.Need-slice-aggregate-put-ticks
 slice-aggregate-put-ticks c = search needs
@@ -57,8 +57,8 @@ returns c =
     let p = at-check t in
     let a = at-start p .args in
     let k = p .check-in in
-    as-for-C (call (a .job .now)) (a .list .now) _ (k .last .1 .1 .0) (a .slots .now) (k .last .1 .1 .1 .1 .0) (places p) (k .result) (a .ticks .now)
-    (t .put-ticks .last .0) (at-places p .tick-places .ensures) (k .ensures) (t .put-ticks .ensures)
+    as-for-C (call (a .job .now) (a .rounds)) (a .list .now) _ (k .last .1 .1 .1 .0) (a .slots .now) (k .last .1 .1 .1 .1 .1 .0) (places p)
+    (k .result) (a .ticks .now) (t .put-ticks .last .0) (at-places p .tick-places .ensures) (k .ensures) (t .put-ticks .ensures)
 
 pub govahrin-check-spec : {M : Type 1} → statement M
 govahrin-check-spec =

@@ -5,13 +5,13 @@ use Rattle.rules.specs.Job.{call}
 use Rattle.rules.specs.Order.{clear}
 use Rattle.rules.specs.Refusals.{checkTests}
 use Rattle.laws.proofs.Verdicts.{Gives, end, stop, step}
-use Rattle.laws.proofs.Jobs.{at-job, past-job}
+use Rattle.laws.proofs.Jobs.{at-call, past-call}
 use Rattle.sheet.proofs.Lists.{at-list, past-list, is-sized, at-order, past-order}
 use Rattle.checker.proofs.Answers.{room-test, refuses, hands-out, roomy}
 use Rattle.checker.proofs.answer.check_draws.Statement.{statement}
 use Rattle.checker.proofs.answer.check_draws.Tie as tie
 
-ruleset walk = (at-job, past-job, at-list, past-list, stop, step, end, room-test, at-order, past-order, is-sized, roomy)
+ruleset walk = (at-call, past-call, at-list, past-list, stop, step, end, room-test, at-order, past-order, is-sized, roomy)
 
 -- Where the list is handed out all tests are walked. What is known after that call is too much for a search, so they are walked before it.
 abbrev before-it : tie.After-hand-out → tie.After-hand-out-arg
@@ -20,12 +20,18 @@ before-it p = search
 abbrev at-start : tie.After-hand-out-arg → tie.Start
 at-start p = search
 
+abbrev at-call-read : tie.After-hand-out-arg → tie.After-read-call
+at-call-read p = search
+
+abbrev at-taken : tie.After-hand-out-arg → tie.After-reading
+at-taken p = search
+
 abbrev at-list-read : tie.After-hand-out-arg → tie.After-read-list
 at-list-read p = search
 
 past-tests : (p : tie.After-hand-out-arg)
     → Gives
-    (checkTests (call (at-start p .args .job .now)) (at-start p .args .list .now) (length (at-start p .args .ticks .now))
+    (checkTests (call (at-start p .args .job .now) (at-start p .args .rounds)) (at-start p .args .list .now) (length (at-start p .args .ticks .now))
     (length (at-start p .args .slots .now)))
     clear
 past-tests p = search walk depth 20 fits 4000
@@ -39,7 +45,7 @@ check-draws-spec =
     (λ c. search needs)
     (λ c κs. search needs)
     (λ c κs. search needs)
-    (λ c. refuses _ _ _ _ _ (let p : tie.After-job-number = search in p .job-number .result) 0 (search) (search walk depth 20 fits 4000))
+    (λ c. refuses _ _ _ _ _ (let p : tie.After-call-number = search in p .call-number .result) 0 (search) (search walk depth 20 fits 4000))
     (λ c κs. search needs)
     (λ c. search needs)
     (λ c. search needs)
@@ -57,4 +63,6 @@ check-draws-spec =
     (λ c. search needs)
     (λ c.
     let p : tie.After-hand-out = search in
-    hands-out _ _ _ _ _ (at-list-read (before-it p) .read-list .result) _ _ _ (search) (search) (p .hand-out .ensures) (past-tests (before-it p))))
+    let q = before-it p in
+    hands-out _ _ _ _ _ (at-call-read q .read-call .result) (at-list-read q .read-list .result) _ _ _ _ (at-call-read q .read-call .ensures)
+    (at-taken q .reading .given .1) (search) (search) (p .hand-out .ensures) (past-tests q)))

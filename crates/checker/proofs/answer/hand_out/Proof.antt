@@ -7,7 +7,7 @@ use lib.ListN.{length, take}
 use lib.Seq.{length-take-le}
 use borrow.Author.Needs.{needs}
 use Rattle.rules.specs.Job.{Call, call, startingSymbols, drawsOf}
-use Rattle.rules.specs.declared.Shape.{Shape}
+use Rattle.rules.specs.declared.Unrolled.{Unrolled}
 use Rattle.sheet.proofs.Rows.{row-starts}
 use Rattle.laws.specs.Limits.{Limits}
 use Rattle.laws.proofs.Copies.{copied-lent}
@@ -30,9 +30,9 @@ module _ (p : tie.After-starting-slots) where
   at-start = search
 
   abbrev asked : Call
-  asked = call (at-start .args .job .now)
+  asked = call (at-start .args .job .now) (at-start .args .shape .rounds)
 
-  abbrev shape : Shape
+  abbrev shape : Unrolled
   shape = at-start .args .shape
 
   limits : Limits asked shape
@@ -42,7 +42,7 @@ module _ (p : tie.After-starting-slots) where
   many = limits .many-draws
 
   starts : take (shape .slots) (p .starting-slots .result) ≡ startingSymbols (asked .job)
-  starts = row-starts (asked .job) shape (p .starting-slots .result) (limits .shaped) (limits .few-slots) (p .starting-slots .ensures)
+  starts = row-starts asked shape (p .starting-slots .result) limits (p .starting-slots .ensures)
 
 slice-aggregate-run-list : tie.Need-slice-aggregate-run-list
 slice-aggregate-run-list c =

@@ -9,7 +9,7 @@ use borrow.Author.Needs.{needs}
 use Rattle.rules.specs.Job.{Call, call, Job, drawsOf, jobOf}
 use Rattle.rules.specs.LoadList.{Event, eventsIn, head-size}
 use Rattle.rules.specs.Refusals.{follow}
-use Rattle.rules.specs.declared.Shape.{Shape}
+use Rattle.rules.specs.declared.Unrolled.{Unrolled}
 use Rattle.laws.proofs.Events.{length-eventsIn}
 use Rattle.display.specs.Tick.{askedRefusal}
 use Rattle.display.specs.View.{History, view, historyBegun, begunBy, Lands}
@@ -54,7 +54,7 @@ module _ (p : tie.After-load-refusal) where
   at-start = start-of at-land
 
   abbrev asked : Call
-  asked = call (at-start .args .job .now)
+  asked = call (at-start .args .job .now) (at-start .args .shape .rounds)
 
   abbrev job : Job
   job = jobOf asked
@@ -87,7 +87,7 @@ module _ (p : tie.After-load-refusal) where
   same-size = at-land .land .kept .0 ∙ at-start .pre .all-slots
 
   size : job .slots ≡ length held₁
-  size = sym (same-size ∙ ap (λ (s : Shape). s .slots) (limits .shaped))
+  size = sym (same-size ∙ ap (λ (s : Unrolled). s .slots) (limits .shaped))
 
   numbered : (h : History) → p .load-refusal .result ≡ askedRefusal job (at-asked-of .asked-of .result) (view held₁ h l)
   numbered h = p .load-refusal .ensures h job size
@@ -121,7 +121,7 @@ module _ (p : tie.After-begin) where
   begins h =
       begins-so _ (at-asked-of at-number .asked-of .result) (held₁ at-number) (p .begin .last .0) (l at-number) (p .begin .result)
       (limits at-number .some-load-time) (p .begin .ensures .0) (p .begin .ensures .1) h (job at-number)
-      (sym (ap (λ (s : Shape). s .«load_time») (limits at-number .shaped)))
+      (sym (ap (λ (s : Unrolled). s .«load_time») (limits at-number .shaped)))
 
 draw-symbol-requires : tie.Need-draw-symbol-requires
 draw-symbol-requires c κs = search needs

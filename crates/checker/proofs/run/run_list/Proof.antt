@@ -8,7 +8,7 @@ use borrow.Author.Needs.{needs}
 use Rattle.rules.specs.Job.{Call, call, Job, drawsOf, jobOf}
 use Rattle.rules.specs.LoadList.{Event, eventsIn, head-size}
 use Rattle.rules.specs.Refusals.{follow, mostTicks}
-use Rattle.rules.specs.declared.Shape.{Shape}
+use Rattle.rules.specs.declared.Unrolled.{Unrolled}
 use Rattle.laws.proofs.Events.{length-eventsIn}
 use Rattle.display.specs.View.{atFirst, onward}
 use Rattle.display.specs.declared.state.Display.{Display}
@@ -21,7 +21,7 @@ use Rattle.checker.proofs.run.run_list.Tie as tie
 
 abbrev Inv-loop : tie.InvT-loop
 Inv-loop job list shape count held₀ ticks₀ slots₀ limit d₀ held ticks slots d =
-    Turn (jobOf (call job)) (eventsIn count (drop head-size list)) held₀ ticks₀ slots₀ held ticks slots d
+    Turn (jobOf (call job (shape .rounds))) (eventsIn count (drop head-size list)) held₀ ticks₀ slots₀ held ticks slots d
 
 abbrev μ-loop : tie.MeasureT-loop
 μ-loop job list shape count held₀ ticks₀ slots₀ limit d₀ held ticks slots d = limit - d .tick
@@ -49,12 +49,13 @@ loop-holds c =
     let after : tie.After-start Inv-loop μ-loop = search in
     let s : tie.Start Inv-loop μ-loop = search in
     let a = s .args in
+    let asks = call (a .job .now) (a .shape .rounds) in
     record {
       same-slots = refl;
       tick-places = refl;
       slot-places = refl;
-      history = atFirst (jobOf (call (a .job .now)));
-      walking = walking-first (call (a .job .now)) (eventsIn (a .count) (drop head-size (a .list .now))) (a .held .now) (after .start .result)
+      history = atFirst (jobOf asks);
+      walking = walking-first asks (eventsIn (a .count) (drop head-size (a .list .now))) (a .held .now) (after .start .result)
           (a .ticks .now) (a .slots .now) (s .pre .starts) (after .start .ensures);
     }
 
@@ -64,12 +65,12 @@ module _ (p : tie.At-loop Inv-loop μ-loop) where
   at-start = search
 
   abbrev asked : Call
-  asked = call (at-start .args .job .now)
+  asked = call (at-start .args .job .now) (at-start .args .shape .rounds)
 
   abbrev job : Job
   job = jobOf asked
 
-  abbrev shape : Shape
+  abbrev shape : Unrolled
   shape = at-start .args .shape
 
   abbrev events : List Event
@@ -143,7 +144,7 @@ follow-tick-requires : tie.Need-follow-tick-requires Inv-loop μ-loop
 follow-tick-requires c κs =
     let p : tie.At-loop Inv-loop μ-loop = search in
     let draws = many p in
-    let time : job p .load-time ≡ shape p .«load_time» = sym (ap (λ (s : Shape). s .«load_time») (limits p .shaped)) in
+    let time : job p .load-time ≡ shape p .«load_time» = sym (ap (λ (s : Unrolled). s .«load_time») (limits p .shaped)) in
     let short = limits p .short-load-time in
     let few = limits p .few-draws in
     let early : p .loop .d .tick < limit p = search in

@@ -4,7 +4,7 @@ use mathlib.Core.Path.{_≡_, sym, ap, _∙_}
 use lib.ListN.{length, take}
 use borrow.Author.Needs.{needs}
 use Rattle.rules.specs.Job.{Call, call, shapeOf, startingSymbols}
-use Rattle.rules.specs.declared.Shape.{Shape}
+use Rattle.rules.specs.declared.Unrolled.{Unrolled}
 use Rattle.laws.specs.Limits.{Limits}
 use Rattle.laws.proofs.Jobs.{limits}
 use Rattle.laws.proofs.Symbols.{length-symbols}
@@ -18,16 +18,16 @@ module _ (p : tie.After-starting-slots) where
   at-start = search
 
   abbrev asked : Call
-  asked = call (at-start .args .job .now)
+  asked = call (at-start .args .job .now) (at-start .args .shape .rounds)
 
-  abbrev shape : Shape
+  abbrev shape : Unrolled
   shape = at-start .args .shape
 
   within : Limits asked shape
   within = limits asked shape (at-start .pre .has-places .taken)
 
   starts : take (shape .slots) (p .starting-slots .result) ≡ startingSymbols (asked .job)
-  starts = row-starts (asked .job) shape (p .starting-slots .result) (within .shaped) (within .few-slots) (p .starting-slots .ensures)
+  starts = row-starts asked shape (p .starting-slots .result) within (p .starting-slots .ensures)
 
 array-borrow-prefix-held : tie.Need-array-borrow-prefix-held
 array-borrow-prefix-held c =
@@ -40,7 +40,7 @@ slice-aggregate-run-plan : tie.Need-slice-aggregate-run-plan
 slice-aggregate-run-plan c =
     let p : tie.After-starting-slots = search in
     sym
-    (ap length (starts p) ∙ length-symbols (shapeOf (asked p .job) .slots) _ ∙ ap (λ (s : Shape). s .slots) (sym (within p .shaped)))
+    (ap length (starts p) ∙ length-symbols (shapeOf (asked p .job) .slots) _ ∙ ap (λ (s : Unrolled). s .slots) (sym (within p .shaped)))
 
 run-plan-requires : tie.Need-run-plan-requires
 run-plan-requires c κs =

@@ -6,9 +6,9 @@ use mathlib.Core.Path.{_≡_, sym, _∙_}
 use lib.ListN.{length, take}
 use borrow.Author.Needs.{needs}
 use Rattle.rules.specs.Job.{Call, call, drawsOf, most-draws}
-use Rattle.rules.specs.Refusals.{readJob}
-use Rattle.rules.specs.declared.JobReading.the-variants.{Taken}
-use Rattle.rules.specs.declared.Shape.{Shape}
+use Rattle.rules.specs.Refusals.{readCall}
+use Rattle.rules.specs.declared.CallReading.the-variants.{Taken}
+use Rattle.rules.specs.declared.Unrolled.{Unrolled}
 use Rattle.laws.specs.Limits.{Limits}
 use Rattle.laws.proofs.Jobs.{limits}
 use Rattle.planner.specs.Runs.{Ended}
@@ -19,7 +19,7 @@ use Rattle.planner.proofs.answer.run_of.Tie as tie
 row-of-requires : tie.Need-row-of-requires
 row-of-requires c κs =
     let s : tie.Start = search in
-    limits (call (s .args .job .now)) (s .args .shape) (s .pre .taken) .few-draws
+    limits (call (s .args .job .now) (s .args .shape .rounds)) (s .args .shape) (s .pre .taken)
 
 -- The draws are copied into a row.
 module _ (p : tie.After-row-of) where
@@ -27,15 +27,15 @@ module _ (p : tie.After-row-of) where
   at-start = search
 
   abbrev asked : Call
-  asked = call (at-start .args .job .now)
+  asked = call (at-start .args .job .now) (at-start .args .shape .rounds)
 
-  abbrev shape : Shape
+  abbrev shape : Unrolled
   shape = at-start .args .shape
 
   abbrev plan : ℕ
   plan = at-start .args .plan
 
-  taken : readJob (asked .job) ≡ Taken shape
+  taken : readCall asked ≡ Taken shape
   taken = at-start .pre .taken
 
   within : Limits asked shape

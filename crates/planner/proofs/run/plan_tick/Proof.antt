@@ -10,7 +10,7 @@ use Rattle.rules.specs.Display.{Rule}
 use Rattle.rules.specs.Job.{Call, call, Job, drawsOf, jobOf}
 use Rattle.rules.specs.Plans.{asking}
 use Rattle.rules.specs.declared.MaybeLoad.{MaybeLoad}
-use Rattle.rules.specs.declared.Shape.{Shape}
+use Rattle.rules.specs.declared.Unrolled.{Unrolled}
 use Rattle.laws.specs.Limits.{Limits}
 use Rattle.display.specs.Tick.{askedRefusal}
 use Rattle.display.specs.View.{History, view, historyBegun, begunBy, Lands}
@@ -33,12 +33,12 @@ module _ (p : tie.After-land) where
   at-start = search
 
   abbrev asked : Call
-  asked = call (at-start .args .job .now)
+  asked = call (at-start .args .job .now) (at-start .args .shape .rounds)
 
   abbrev job : Job
   job = jobOf asked
 
-  abbrev shape : Shape
+  abbrev shape : Unrolled
   shape = at-start .args .shape
 
   abbrev rule : Rule
@@ -72,7 +72,7 @@ module _ (p : tie.After-land) where
   same-size = p .land .kept .0 ∙ before .size
 
   size : job .slots ≡ length held₁
-  size = sym (same-size ∙ ap (λ (s : Shape). s .slots) (limits .shaped))
+  size = sym (same-size ∙ ap (λ (s : Unrolled). s .slots) (limits .shaped))
 
 asked-of-requires : tie.Need-asked-of-requires
 asked-of-requires c κs =
@@ -154,7 +154,7 @@ module _ (p : tie.After-begin) where
   begins h =
       let q = at-land at-number in
       begins-so _ (load at-number) (held₁ q) (p .begin .last .0) (l q) (p .begin .result) (limits q .some-load-time) (p .begin .ensures .0)
-      (p .begin .ensures .1) h (job q) (sym (ap (λ (s : Shape). s .«load_time») (limits q .shaped)))
+      (p .begin .ensures .1) h (job q) (sym (ap (λ (s : Unrolled). s .«load_time») (limits q .shaped)))
 
 draw-or-wait-requires : tie.Need-draw-or-wait-requires
 draw-or-wait-requires c κs =

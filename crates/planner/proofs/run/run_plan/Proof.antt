@@ -12,7 +12,7 @@ use Rattle.rules.specs.Display.{Rule, Loaded, going, refused}
 use Rattle.rules.specs.Job.{Call, call, Job, shapeOf, jobOf}
 use Rattle.rules.specs.LoadList.{last-tick}
 use Rattle.rules.specs.Plans.{earliest, ruleOf}
-use Rattle.rules.specs.declared.Shape.{Shape}
+use Rattle.rules.specs.declared.Unrolled.{Unrolled}
 use Rattle.laws.specs.Limits.{Limits}
 use Rattle.laws.proofs.Jobs.{limits}
 use Rattle.laws.proofs.Symbols.{length-symbols}
@@ -29,7 +29,7 @@ use Rattle.planner.proofs.run.run_plan.Statement.{statement}
 use Rattle.planner.proofs.run.run_plan.Tie as tie
 
 abbrev Inv-loop : tie.InvT-loop
-Inv-loop plan job shape row held₀ orders loads₀ d₀ held loads d = MidRun plan (call job) (length held₀) orders held loads d
+Inv-loop plan job shape row held₀ orders loads₀ d₀ held loads d = MidRun plan (call job (shape .rounds)) (length held₀) orders held loads d
 
 abbrev μ-loop : tie.MeasureT-loop
 μ-loop plan job shape row held₀ orders loads₀ d₀ held loads d = last-tick - d .tick
@@ -42,7 +42,7 @@ loop-holds c =
     let after : tie.After-start Inv-loop μ-loop = search in
     let s : tie.Start Inv-loop μ-loop = search in
     let a = s .args in
-    let asked = call (a .job .now) in
+    let asked = call (a .job .now) (a .shape .rounds) in
     let ready = s .pre .prepared in
     record {
       same-size = refl;
@@ -60,7 +60,7 @@ module _ (p : tie.At-loop Inv-loop μ-loop) where
   plan = at-start .args .plan
 
   abbrev asked : Call
-  asked = call (at-start .args .job .now)
+  asked = call (at-start .args .job .now) (at-start .args .shape .rounds)
 
   abbrev job : Job
   job = jobOf asked
@@ -68,7 +68,7 @@ module _ (p : tie.At-loop Inv-loop μ-loop) where
   abbrev rule : Rule
   rule = ruleOf job plan
 
-  abbrev shape : Shape
+  abbrev shape : Unrolled
   shape = at-start .args .shape
 
   abbrev d : Display
@@ -89,7 +89,7 @@ module _ (p : tie.At-loop Inv-loop μ-loop) where
   size : length (p .loop .held) ≡ shape .slots
   size =
       p .loop .inv .same-size ∙ ap length (at-start .pre .starts) ∙ length-symbols (shapeOf (asked .job) .slots) _
-      ∙ ap (λ (s : Shape). s .slots) (sym (within-limits .shaped))
+      ∙ ap (λ (s : Unrolled). s .slots) (sym (within-limits .shaped))
 
   walking : Walking job rule (p .loop .held) d history
   walking = p .loop .inv .walking
