@@ -9,14 +9,14 @@ TEXT
 
 help_plan() {
     cat <<'TEXT'
-  govahrin plan NAME SHEET.job [-o FILE]
+  govahrin plan NAME SHEET.job [--rounds R] [-o FILE]
       The load list of a plan, as bytes. NAME is aggressive, conservative, opt or lru.
 TEXT
 }
 
 help_check() {
     cat <<'TEXT'
-  govahrin check SHEET.job SHEET.list [--names FILE]
+  govahrin check SHEET.job SHEET.list [--rounds R] [--names FILE]
       `accepted`, elapsed, waits, loads and the longest wait before one draw, then a line for each draw: draw, symbol, tick, slot, and
       the symbol's name where it is known. A refused list: which event or draw it is, and what is in its way.
 TEXT
@@ -24,10 +24,10 @@ TEXT
 
 help_timeline() {
     cat <<'TEXT'
-  govahrin timeline SHEET.job [WHAT] [--text] [--from TICK] [--to TICK] [--names FILE] [-o FILE]
+  govahrin timeline SHEET.job [WHAT] [--rounds R] [--text] [--from TICK] [--to TICK] [--names FILE] [-o FILE]
       A picture (SVG) of the sheet's run; with --text in plain text. WHAT is a load list or a plan's name (conservative if nothing is
-      said); a plan's name wins over a file of that name, and ./opt is the file. The longest wait is marked. Of a
-      refused list the run up to its refusal is drawn, and the refusal marked.
+      said); a plan's name wins over a file of that name, and ./opt is the file. The longest wait is marked, and where each of
+      several rounds begins. Of a refused list the run up to its refusal is drawn, and the refusal marked.
 TEXT
 }
 
@@ -74,6 +74,8 @@ TEXT
 help_common() {
     cat <<'TEXT'
 
+--rounds R: the sheet is drawn R times over, and one list covers all rounds. Draws are counted through the rounds. Without it there
+is one round.
 A file may be - for standard input; one whose name begins with a dash may be written ./-name, or after a word --.
 SHEET.list may be the text of a list wherever a list is read but in `govahrin text`: its first byte, a digit, tells. An empty file is the
 empty text to `govahrin list` alone, and no list.

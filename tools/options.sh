@@ -1,10 +1,11 @@
-# Takes a verb's words apart: its options into out, names, text, from and to, its other words into word1 to word4, their number
-# into count. A word with a leading dash that is no option is a file's name where there is such a file.
+# Takes a verb's words apart: its options into out, names, text, FROM, TO and ROUNDS, its other words into word1 to word4, their
+# number into count. A word with a leading dash that is no option is a file's name where there is such a file.
 
 options() { # OPTIONS WORDS
     known=" --help -h $1 "
     shift
-    out='' names='' text='' FROM='' TO='' count=0 word1='' word2='' word3='' word4=''
+    out='' names='' text='' FROM='' TO='' ROUNDS=1 count=0 word1='' word2='' word3='' word4=''
+    export ROUNDS
     while [ $# -gt 0 ]; do
         word=$1
         shift
@@ -35,6 +36,7 @@ take_option() { # OPTION VALUE
     --names) names=$2 ;;
     --from) FROM=$(tick_of "$1" "$2") || { ending=2; exit 2; } ;;
     --to) TO=$(tick_of "$1" "$2") || { ending=2; exit 2; } ;;
+    --rounds) ROUNDS=$(rounds_of "$1" "$2") || { ending=2; exit 2; } ;;
     esac
 }
 
@@ -43,8 +45,19 @@ tick_of() { # OPTION VALUE
     case $2 in
     *[!0-9]* | ??????????*) say "$1 takes a tick, a decimal number, not $(shown "$2")"; return 1 ;;
     esac
-    printf '%s' "$2" | sed 's/^0*\(.\)/\1/'
+    plain "$2"
 }
+
+plain() { printf '%s' "$1" | sed 's/^0*\(.\)/\1/'; } # DIGITS
+
+# A number of 32 bits without leading zeros, as the programs take it. Which of these numbers is refused is theirs to say.
+rounds_of() { # OPTION VALUE
+    case $2 in *[!0-9]*) ;; *) digits=$(plain "$2"); ! fits "$digits" || { printf '%s' "$digits"; return; } ;; esac
+    say "$1 takes a number of rounds, a decimal number of at most 4294967295, not $(shown "$2")"
+    return 1
+}
+
+fits() { case $1 in ???????????*) return 1 ;; esac; [ "$1" -le 4294967295 ]; } # DIGITS
 
 add_word() { # WORD
     count=$((count + 1))

@@ -50,16 +50,23 @@ number_at() { # NAME PLACE BYTES
         awk -v bytes="$3" '{ for (i = 1; i <= NF; i++) { sum = sum * 256 + $i; count++ } } END { if (count == bytes) print sum }'
 }
 
-# Checks one file of the temporary folder against another; leaves the lines at $scratch/said.
-judge() { # JOB LIST
-    ask said check_sheet "$scratch/$1" "$scratch/$2"
-    believe said check "$(number_at "$1" 8 2)"
+# The draws of all rounds; nothing where the job is shorter than its head.
+draws_of() { # JOB ROUNDS
+    round=$(number_at "$1" 8 2)
+    [ -z "$round" ] || echo $(($2 * round))
+}
+
+# Checks one file of the temporary folder against another, in the rounds that were asked for or in as many as said here; leaves the
+# lines at $scratch/said.
+judge() { # JOB LIST [ROUNDS]
+    ask said check_sheet "$scratch/$1" "$scratch/$2" "${3:-$ROUNDS}"
+    believe said check "$(draws_of "$1" "${3:-$ROUNDS}")"
     [ -z "$why" ] || not_in_full
 }
 
 # Plans $scratch/sheet.job; leaves the list at $scratch/sheet.list. A refusal is its line on standard error, and no list.
 plan_by() { # PLAN
-    ask sheet.list plan_sheet "$1" "$scratch/sheet.job"
+    ask sheet.list plan_sheet "$1" "$scratch/sheet.job" "$ROUNDS"
     case $why in
     '') is_list sheet.list || not_in_full ;;
     'refused '*) [ ! -s "$scratch/sheet.list" ] || not_in_full; refuse_job "$why" ;;
@@ -102,18 +109,22 @@ is_whole_list() { # TEXT LIST
     is_list "$2" && [ "$events" -eq "$(wc -l <"$scratch/$1")" ]
 }
 
-# The job at $scratch/sheet.job with a list of no events: refused 1 to 5 exactly where the job is.
+# The job at $scratch/sheet.job with a list of no events: refused 1 to 5 or 17 exactly where the job or the number of rounds is.
 judge_job() {
     printf '\0\0\0\003\001\0\0' >"$scratch/empty.list" 2>/dev/null || fail "cannot write in the temporary folder $(shown "$scratch")"
     judge sheet.job empty.list
 }
 
-# Says why the job is refused, in the words of the check, and ends. LINE is what another program said of it.
+is_of_job() { [ "$verdict" = refused ] && { [ "$number" -le 5 ] || [ "$number" -eq 17 ]; }; }
+
+# Says why the job or the number of rounds is refused, in the words of the check, and ends. LINE is what another program said of it.
 refuse_job() { # LINE
     other=$asked
     judge_job
-    [ "$1" = "$verdict $number $detail" ] && [ "$number" -le 5 ] || fail "the programs $other and check_sheet differ: $1"
-    say_refused said
+    [ "$1" = "$verdict $number $detail" ] && is_of_job || fail "the programs $other and check_sheet differ: $1"
+    surely_into names true
+    explain job
+    say_refused answer
 }
 
 # Says a refusal and ends. Words that answer a question go to standard output; beside a file's bytes they go to standard error.

@@ -1,5 +1,5 @@
-# What a refusal is about, in one line: the event with its tick, slot and symbol, or the draw with its symbol, and what is in its way.
-# It says nothing of a refusal that names neither.
+# What a refusal is about, in one line: the event with its tick, slot and symbol, or the draw with its symbol, and what is in its
+# way; or the rounds with their draws. It says nothing of a refusal that is about none of these.
 
 function symbolOf(symbol) { return "symbol " symbol (symbol in nameOf ? ", " nameOf[symbol] : "") }
 
@@ -36,6 +36,14 @@ function holder(i) {
     return "slot " slotHolding(eventSymbol[i], i) " holds it"
 }
 
+function drawOf(i) { return "draw " i " (" inRoundWords(i) symbolOf(drawn[i]) "): " }
+
+function tooMany() {
+    if (!rounds) return "0 rounds: a sheet is drawn once or more"
+    return sprintf("%.0f rounds of %d draw%s are %.0f draws: a list covers at most 4,096", rounds, inRound, inRound == 1 ? "" : "s",
+        rounds * inRound)
+}
+
 function takenOut(symbol) {
     slotHolding(symbol, events)
     if (takenBy < 0) return "it is in no slot at the start, and no event loads it"
@@ -48,6 +56,7 @@ END {
     if (refusal == 10) print eventOf(detail) loading(detail - 1)
     if (refusal == 11) print eventOf(detail) "the display has slots 0 to " slots - 1
     if (refusal == 12) print eventOf(detail) holder(detail)
-    if (refusal == 13) print "draw " detail " (" symbolOf(drawn[detail]) "): " takenOut(drawn[detail])
+    if (refusal == 13) print drawOf(detail) takenOut(drawn[detail])
     if (refusal == 14) print eventOf(detail) "all " draws " draws are done by then"
+    if (refusal == 17) print tooMany()
 }

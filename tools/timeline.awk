@@ -3,6 +3,7 @@
 #   span 1 to spans: what a slot does from a tick until another. wait 1 to stretches: ticks without a draw, by their cause:
 #   L, where the awaited symbol is being loaded; O, where another is; N, where nothing is.
 #   The longest single wait, the first where several are as long, is from tick pauseFrom until pauseUntil; none where both are 0.
+#   round 0 to lastRound: each begins at tick roundFrom[]. Of a sheet that is drawn once none is told, and lastRound is -1.
 
 function stop(line) {
     print line > "/dev/stderr"
@@ -117,6 +118,21 @@ function reckonLongest(   draw, tick) {
     }
 }
 
+# A round begins in the tick after the last draw of the round before it. A refused list may not come to all rounds.
+function reckonRounds(   draw) {
+    lastRound = -1
+    if (rounds < 2) return
+    for (draw = 0; draw < draws && draw <= made; draw += inRound) roundFrom[++lastRound] = draw ? drawTick[draw - 1] + 1 : 0
+}
+
+function showsRound(i) { return roundFrom[i] >= first && roundFrom[i] < until }
+
+# What the run draws must be what the sheet draws, through all rounds.
+function holdSymbols(   draw) {
+    for (draw = 0; draw < made; draw++) if (drawSymbol[draw] != drawn[draw])
+        stop("the run draws symbol " drawSymbol[draw] " as draw " draw ", and the sheet symbol " drawn[draw])
+}
+
 # Whether any of it is shown.
 function showsLongest() { return pauseUntil > first && pauseFrom < until && pauseFrom < pauseUntil }
 
@@ -159,6 +175,8 @@ function runWords() {
     return "refused at tick " refusalTick " after " made " of " countOf(draws, "draw")
 }
 
+function drawsWords() { return (rounds == 1 ? "" : ENVIRON["ROUNDS"] " rounds of ") countOf(inRound, "draw") }
+function roundWords(i) { return "round " i " begins: tick " roundFrom[i] ", draw " i * inRound }
 function rangeWords() { return "shown: " shownWords() " of 0 to " (ticks - 1) }
 
 function symbolAndName(symbol) { return "symbol " symbol (symbol in nameOf ? ", " nameOf[symbol] : "") }
@@ -179,16 +197,18 @@ function refusalWords(   what) {
     else if (refusal == 11) what = eventWords(detail) "names a slot that the display does not have"
     else if (refusal == 12) what = eventWords(detail) heldWords(eventSymbol[detail])
     else if (refusal == 14) what = eventWords(detail) "is left when all draws are done"
-    else what = "draw " detail " (" symbolAndName(drawn[detail]) ") would wait for ever at tick " refusalTick
+    else what = "draw " detail " (" inRoundWords(detail) symbolAndName(drawn[detail]) ") would wait for ever at tick " refusalTick
     return "refused " refusal ": " what
 }
 
 END {
     readSheet()
+    holdSymbols()
     reckonEnd()
     reckonRange()
     reckonSlots()
     reckonWaits()
     reckonLongest()
+    reckonRounds()
     if (refusal == "" && !isCut && waitsShown + 0 != waits) stop("the picture has " waitsShown + 0 " waits, and the run " waits)
 }

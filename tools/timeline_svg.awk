@@ -1,6 +1,7 @@
 # A timeline as a picture (SVG): the ticks run in bands from left to right, as lines of music do, so that it can be read on
-# a phone and in print. In each band a row a slot, and below them the waits, each with the letter of its cause. A box says
-# in its title, which a browser shows, what it is. Nothing depends on how many ticks there are, only on how much happens.
+# a phone and in print. In each band a row a slot, and below them the waits, each with the letter of its cause; above them
+# the rounds, where there are several. A box says in its title, which a browser shows, what it is. Nothing depends on how
+# many ticks there are, only on how much happens.
 
 function put(line) { body[++lines] = line }
 function number(value) { return sprintf("%.1f", value) + 0 }
@@ -68,8 +69,8 @@ function mark(x, y, width, words) {
 }
 
 # Where things are. All heights are multiples of 9, the size of a pattern, so that a pattern lies alike in all boxes.
-function top(band) { return head + band * (slots * 27 + 54) }
-function down(row, band) { return top(band) + 18 + row * 27 }
+function top(band) { return head + band * (slots * 27 + 54 + roundRow) }
+function down(row, band) { return top(band) + 18 + roundRow + row * 27 }
 function startOf(band) { return first + band * perBand }
 function endOf(band) { return least(startOf(band) + perBand, until) }
 function across(tick, band) { return left + (tick - startOf(band)) * tickWidth }
@@ -98,6 +99,7 @@ function setUpBands(   count, mostBands) {
 
 function setUp(   i) {
     setUpBands()
+    roundRow = rounds > 1 ? 18 : 0
     left = 54
     bandWidth = 418
     tickWidth = bandWidth / perBand
@@ -135,7 +137,7 @@ function noteShown(symbol) {
 
 # The style. The other classes: g the page, q quiet words, b the title, m and e words set to their middle and end, h words on
 # a pattern, i words on N and r, o an outline, d a draw and the bar of the longest wait, l a load, L O N the waits, r v a
-# refusal, x z lines of patterns.
+# refusal, x z lines of patterns, x u the line of a round.
 
 function scheme(page, ink, quiet, outline, hatch, refused, waitL, waitO, waitN, inkOnN, tint,   rules, i) {
     rules = "svg:root{background:" page "}.g{fill:" page "}.h{stroke:" page "}text,.d{fill:" ink "}.x{stroke:" ink "}\n" \
@@ -151,6 +153,7 @@ function style() {
     print "text{font:13px sans-serif}.b{font:bold 15px sans-serif}.m{text-anchor:middle}.e{text-anchor:end}"
     print ".o{stroke-width:.6}.x,.z{fill:none}.x{stroke-opacity:.4}.v{fill:none;stroke-width:1.5}"
     print ".h{paint-order:stroke;stroke-width:3px;stroke-opacity:.75}.l{fill:url(#l)}"
+    if (rounds > 1) print ".u{stroke-width:1.5;stroke-opacity:1}"
     print scheme("#fff", "#111", "#555", "#555", "#999", "#c00", "#ddd", "#aaa", "#555", "#fff", light)
     print "@media screen and (prefers-color-scheme:dark){"
     print scheme("#16181b", "#eee", "#aaa", "#999", "#666", "#f66", "#333", "#666", "#bbb", "#111", dark)
@@ -266,6 +269,35 @@ function drawDraws(   draw, slot, tick) {
     for (slot = 0; slot < slots; slot++) drawMark(slot)
 }
 
+function roundLine(x, y, height, words) {
+    put("<path class=\"x u\" d=\"M" number(x) " " y "v" height "\"" (words == "" ? "/>" : "><title>" words "</title></path>"))
+}
+
+# A line through the slots and the waits where a round begins. It goes on upwards beside the round's number, where there is room
+# for that.
+function drawRound(i, band, x,   up) {
+    up = x >= numberTaken && x + 4 + wideOf(i "") <= 479 ? 18 : 0
+    roundLine(x, down(0, band) - up, slots * 27 + 18 + up, roundWords(i))
+    lineTaken = x + 6
+    if (!up) return
+    text(x + 4, top(band) + 31, "", i)
+    numberTaken = x + 8 + wideOf(i "")
+}
+
+# Of rounds that begin too close together only the first is drawn.
+function drawRounds(   i, band, x, bandBefore) {
+    bandBefore = -1
+    for (i = 0; i <= lastRound; i++) {
+        if (!showsRound(i)) continue
+        band = bandOf(roundFrom[i])
+        x = across(roundFrom[i], band)
+        if (band != bandBefore) lineTaken = numberTaken = 0
+        bandBefore = band
+        shows[x < lineTaken ? "rounds" : "round"] = 1
+        if (x >= lineTaken) drawRound(i, band, x)
+    }
+}
+
 # A frame around the tick of a refusal, and a red box in the row of waits.
 function drawRefusal(   band, x, width) {
     if (refusalTick < first || refusalTick >= until) return
@@ -273,7 +305,7 @@ function drawRefusal(   band, x, width) {
     band = bandOf(refusalTick)
     x = across(refusalTick, band)
     width = most(1.5, tickWidth)
-    rectangle(x, top(band) + 16, width, slots * 27 + 20, "v", "", refusalWords())
+    rectangle(x, down(0, band) - 2, width, slots * 27 + 20, "v", "", refusalWords())
     width = most(10, width)
     x = least(x, 478 - width)
     box(x, down(slots, band), width, 18, "r", refusalWords())
@@ -307,6 +339,7 @@ function axis(band,   step, tick, row) {
     step = axisStep(wideOf((until - 1) "") + 9)
     axisNumber(startOf(band), band, 1)
     for (tick = (int(startOf(band) / step) + 1) * step; tick < endOf(band); tick += step) axisNumber(tick, band, 0)
+    if (rounds > 1) text(left - 6, top(band) + 31, "e", "round")
     for (row = 0; row < slots; row++) text(left - 6, down(row, band) + 16, "e", "slot " row)
     text(left - 6, down(slots, band) + 13, "e", "waits")
 }
@@ -339,6 +372,7 @@ function key(class, textClass, sign, swatch, words, room) {
         below += 18
     }
     if (class == "bar") rectangle(keyX, below + 6, swatch, 3, "d", "", "")
+    else if (class == "line") roundLine(keyX + swatch / 2, below, 15, "")
     else if (class == "d") mark(keyX + swatch - markWidth - 1, below + 5, markWidth, "")
     else if (class != "") box(keyX, below, swatch, 15, class, "")
     if (sign != "") text(keyX + swatch / 2, below + 12, textClass " m", sign)
@@ -377,6 +411,8 @@ function legend(   cause, words, i) {
     if (shows["loading"]) key("l", "", "", 24, "being loaded", 140)
     if (shows["free"]) key("g", "", "", 24, "free", 78)
     if (shows["draw"]) key("d", "", "", 10, shows["draws"] ? "a draw or more" : "a draw", 140)
+    if (shows["round"]) keys("round")
+    if (shows["round"]) key("line", "", "", 24, shows["rounds"] ? "a round or more begin" : "a round begins", bandWidth)
     if (stretches || shows["refusal"]) keys(stretches ? "waits" : "")
     split("L O N", cause, " ")
     split("the awaited symbol is being loaded;another symbol is being loaded;nothing is being loaded", words, ";")
@@ -408,7 +444,7 @@ function headLines(class, words,   word, count, i, line, broken) {
 function drawHead() {
     head = 22
     text(10, head, "b", cutTo(350, ENVIRON["TITLE"]))
-    headLines("", "k " slots ", F " loadTime ", " countOf(draws, "draw") ": " runWords())
+    headLines("", "k " slots ", F " loadTime ", " drawsWords() ": " runWords())
     if (refusal != "") headLines("r", refusalWords())
     if (isCut) headLines("", rangeWords())
     if (!bands) headLines("q", "The run has no ticks.")
@@ -424,6 +460,7 @@ END {
     for (i = 1; i <= stretches; i++) drawWait(i)
     drawLongest()
     drawDraws()
+    drawRounds()
     drawRefusal()
     below = head
     if (bands) drawSum()

@@ -1,6 +1,6 @@
 # A timeline in plain text: a column a tick, a row a slot. `3*` is drawn from, `>3` is being loaded, `.` is free. A wait
 # is L where the awaited symbol is being loaded, O where another is, N where nothing is; `!` is where a list is refused. The
-# letters of the longest wait have a `^`.
+# letters of the longest wait have a `^`. Where there are several rounds, a round's number is in its first tick.
 
 function pad(words, width) {
     while (length(words) < width) words = words " "
@@ -19,13 +19,20 @@ function fill(   i, tick, words) {
         for (tick = most(first, waitFrom[i]); tick < least(until, waitUntil[i]); tick++) cause[tick] = waitCause[i]
     for (tick = most(first, pauseFrom); tick < least(until, pauseUntil); tick++) cause[tick] = cause[tick] "^"
     if (refusal != "") cause[refusalTick] = "!"
+    for (i = 0; i <= lastRound; i++) begins[roundFrom[i]] = i
     width = most(width, length(columns "") + 1)
+}
+
+function content(what, slot, tick) {
+    if (what == "tick") return tick ""
+    if (what == "round") return tick in begins ? begins[tick] "" : ""
+    return (what == "wait" ? cause[tick] : cell[slot, tick]) ""
 }
 
 function row(name, from, end, what, slot,   tick, line) {
     line = pad(name, 9)
     for (tick = from; tick < end; tick++)
-        line = line pad(what == "tick" ? tick "" : what == "wait" ? cause[tick] "" : cell[slot, tick] "", width)
+        line = line pad(content(what, slot, tick), width)
     sub(/ +$/, "", line)
     print line
 }
@@ -36,6 +43,7 @@ function printBands(   perBand, from, end, slot) {
         end = least(from + perBand, until)
         print ""
         row("tick", from, end, "tick", 0)
+        if (rounds > 1) row("round", from, end, "round", 0)
         for (slot = 0; slot < slots; slot++) row("slot " slot, from, end, "slot", slot)
         row("wait", from, end, "wait", 0)
     }
@@ -75,6 +83,7 @@ END {
         printBands()
         print "\n3* drawn, >3 being loaded, . free; wait: L awaited symbol is being loaded, O another is, N nothing is" \
             (refusal == "" ? "" : ", ! refused")
+        if (rounds > 1) print "round: the number of a round where it begins, counted from 0"
         if (showsLongest()) print "^ " longestWords()
         printNames()
     }
