@@ -66,7 +66,7 @@ jobTests job =
 
 -- ---- A job in rounds: refusal 17 (document 02, Five)
 
--- 17. No round, or more draws in all rounds than a job may have. A sheet with no draws may be drawn any number of times.
+-- 17. No round, or more draws in all rounds than a job may have. Of a sheet with no draws every number of rounds but 0 is taken.
 unfoldable pub badRounds : Call → Bool
 badRounds asked = ltb (asked .rounds) 1 || ltb most-draws (unrolled asked .draws)
 
