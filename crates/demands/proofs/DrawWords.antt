@@ -27,7 +27,7 @@ module _ (draws : List ℕ) (next : ℕ) where
 
   -- It has one last draw at most.
   last-least : (x i j : ℕ) → LastDraw draws next x i → LastDraw draws next x j → j ≤ i
-  last-least x i j a b = by-test (ltb i j) (λ t. absurd (a .last j (omega (arith, ltb-true i j t)) (b .before) (b .here))) (ltb-false i j)
+  last-least x i j a b = by-test (ltb i j) (λ t. absurd (a .last j (omega (arith, ltb-true i j t)) (b .past) (b .here))) (ltb-false i j)
 
   last-one : (x i j : ℕ) → LastDraw draws next x i → LastDraw draws next x j → i ≡ j
   last-one x i j a b = omega (arith, last-least x i j a b, last-least x j i b a)
@@ -127,7 +127,7 @@ module _ (draws : List ℕ) (next : ℕ) (within : next ≤ length draws) where
   last-found x found =
       let less : place x made < next = omega (arith, size-made) in
       record {
-        before = omega arith;
+        past = omega arith;
         here = (omega arith, sym (made-at (place x made) less) ∙ place-holds x made found);
         last = back-undrawn x (next - 1 - place x made + 1) (omega arith);
       }
@@ -142,7 +142,7 @@ module _ (draws : List ℕ) (next : ℕ) (within : next ≤ length draws) where
             (λ t.
             let found : place x made < length made = ltb-true _ _ t in
             let l : LastDraw draws next x (next - 1 - place x made) = last-found x found in
-            absurd (none (next - 1 - place x made) (omega arith) (l .before) (l .here)))
+            absurd (none (next - 1 - place x made) (omega arith) (l .past) (l .here)))
             (ltb-false _ _);
         further = λ x y more found.
             record { i = _; j = _; one = last-found x found; other = last-found y (omega arith); longer-ago = omega (arith, size-made) };

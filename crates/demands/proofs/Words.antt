@@ -23,8 +23,8 @@ use Rattle.plan_laws.proofs.Asking.{both-true}
 use Rattle.demands.specs.Fair.{eventTick, eventAt}
 use Rattle.demands.specs.Table as table
 use Rattle.demands.specs.Table.{Row, JobLengthWrong, OutsideLimits, no-slot, many-slots, no-time, long-time, many-draws, SymbolsWrong, twice}
-use Rattle.demands.specs.Table.{free-drawn, RoundsWrong, no-round, too-many, callRows, Late, planRows, ListWrong, wrong-version, many-events, wrong-size}
-use Rattle.demands.specs.Table.{PlacesShort, few-ticks, few-slots, OutOfOrder, over-limit, not-above, FirstOutOfOrder, checkRows}
+use Rattle.demands.specs.Table.{free-drawn, RoundsWrong, no-round, too-many, callRows, Late, planRows, ListWrong, wrong-version, many-events}
+use Rattle.demands.specs.Table.{wrong-size, PlacesShort, few-ticks, few-slots, OutOfOrder, over-limit, not-above, FirstOutOfOrder, checkRows}
 use Rattle.demands.proofs.Stops.{held-and-failed}
 use Rattle.demands.proofs.Tables.{Says, Agree, end, more, late, lateTests}
 

@@ -41,7 +41,7 @@ pub record Later (draws : List ℕ) (next x y : ℕ) : Type 0 where
 
 -- The last draw of a symbol: its last place before the next draw number.
 pub record LastDraw (draws : List ℕ) (next x i : ℕ) : Type 0 where
-  pub before : i < next
+  pub past : i < next
   pub here : DrawOf draws i x
   pub last : Undrawn draws (i + 1) next x
 

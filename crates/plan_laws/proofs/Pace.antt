@@ -132,7 +132,7 @@ module _ (job : Job) (proper : Proper job) (pick : Choosing) (below : Below pick
     is-miss : missAt (s .loads) ≡ m
     to-begin : drop (s .loads) may-begin
         ≡ cameFree (reverse (take m (job .draws))) (getD (s .slots) q 0) ∷ freeFrom (job .draws) (set (s .slots) q x) (map missOf later)
-    before : s .next ≤ m
+    comes : s .next ≤ m
     within : m ≤ length (job .draws)
 
   next-load : (s : State) → Kept s → PacedState s → s .loading ≡ Idle → (t m q x : ℕ) (later : List Loaded)
@@ -154,7 +154,7 @@ module _ (job : Job) (proper : Proper job) (pick : Choosing) (below : Below pick
         found = f;
         is-miss = sym (drop-at (s .loads) missed (length (job .draws))) ∙ ap (λ (l : List ℕ). getD l 0 (length (job .draws))) draws-left;
         to-begin = sym row;
-        before = omega (arith, f .at);
+        comes = omega (arith, f .at);
         within = omega (arith, f .at, f .drawn);
       }
 
@@ -165,7 +165,7 @@ module _ (job : Job) (proper : Proper job) (pick : Choosing) (below : Below pick
       let g : SaneState job s = k .0 in
       let one : s .loads + 1 - 1 ≡ s .loads = omega arith in
       let soon : cameFree (reverse (take (a .miss) (job .draws))) (getD (s .slots) q 0) ≤ s .next =
-      undrawn-free (job .draws) (s .next) (a .miss) (s .rest) (g .ahead) (n .before) (n .within) (getD (s .slots) q 0) (a .enough) in
+      undrawn-free (job .draws) (s .next) (a .miss) (s .rest) (g .ahead) (n .comes) (n .within) (getD (s .slots) q 0) (a .enough) in
       record {
         coming = λ left′ q′ x′ e.
             one-under
@@ -241,7 +241,7 @@ module _ (job : Job) (proper : Proper job) (pick : Choosing) (below : Below pick
           absurd
           (omega (
             arith,
-            free-undrawn (job .draws) (s .next) m (s .rest) (k .0 .ahead) (n .before) (n .within) z
+            free-undrawn (job .draws) (s .next) m (s .rest) (k .0 .ahead) (n .comes) (n .within) z
                 (ltb-false (s .next) (cameFree (reverse (take m (job .draws))) z) t),
           )))
 
