@@ -1,5 +1,5 @@
-/* A small host: it plans two rounds of a sheet, prints their loads, checks the list before anything is shown, steps a
-   display tick by tick, and tells why a draw waited.
+/* A small host: it plans two rounds of a sheet, prints their loads, checks the list before anything is shown, and steps a
+   display tick by tick.
    Build it where the library is installed: cc -std=c99 host.c $(pkg-config --cflags --libs govahrin)
    or in the source tree: cc -std=c99 -I include examples/host.c target/staticlib/libgovahrin.a */
 #include "govahrin.h"
@@ -71,24 +71,6 @@ static void show(const uint8_t *list, const struct times *times, govahrin_answer
     }
 }
 
-/* Why a draw waited: what was loading meanwhile, and by which loads of the list its symbol went and came. */
-static void explain(const uint8_t *list, size_t list_len, uint32_t draw)
-{
-    govahrin_reason r = govahrin_why(sheet, sizeof sheet, list, list_len, draw, ROUNDS);
-    uint32_t symbol = number(sheet + 10 + 2 * SLOTS + 2 * (draw % DRAWS), 2);
-    if (r.number) {
-        printf("draw %u: refused %u: %s\n", (unsigned)draw, (unsigned)r.number, govahrin_words(r.number));
-        return;
-    }
-    printf("draw %u, %s, waited %u ticks while it was loading, %u while another symbol was, %u while nothing was\n",
-           (unsigned)draw, picture[symbol], (unsigned)r.own, (unsigned)r.another, (unsigned)r.nothing);
-    if (r.taken != GOVAHRIN_NEVER_TAKEN) printf("load %u had taken it out, counted from 0\n", (unsigned)r.taken);
-    if (r.brought == GOVAHRIN_FROM_THE_START)
-        printf("it was in a slot from the start\n");
-    else
-        printf("load %u brought it, counted from 0\n", (unsigned)r.brought);
-}
-
 int main(void)
 {
     uint8_t list[GOVAHRIN_PLAN_ROOM(ALL_DRAWS)];
@@ -103,9 +85,6 @@ int main(void)
     report("check", checked);
     if (checked.number) return 1;
     show(list, &times, checked);
-
-    /* The light of the second round, which the rock awash has driven out in the first. */
-    explain(list, GOVAHRIN_LIST_SIZE(planned.loads), DRAWS + 1);
 
     /* The same list with its first load one tick early. The light is gone before it is drawn, so that the load of the second round
        has to serve the first, and no load is left for the second. */

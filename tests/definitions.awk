@@ -31,7 +31,7 @@ function flush() {
     theorems++
     table = table "\npart-" theorems " : map found (" substr(rows, 5) "[]) ≡ map expected (" substr(rows, 5) "[])\n" \
         "unfolding planned checked run tick beginning happened place symbols timesOver doubled missing ranksFrom greatest eventsIn eventsBytes\n" \
-        "    due firstBadTick firstOf digitsOf textOf digitCount numberFrom readLine readLines writeTests readTests told\n" \
+        "    due firstBadTick firstOf digitsOf textOf digitCount numberFrom readLine readLines writeTests readTests\n" \
         "part-" theorems " = refl\n"
     rows = ""
     held = 0
@@ -58,31 +58,6 @@ $1 == "check" && $10 <= most {
     if (++held == 4) flush()
 }
 
-# The tick of event i of a list in hexadecimal.
-function tick(hex, i,   from, n, value) {
-    from = 15 + 14 * i
-    value = 0
-    for (n = 0; n < 8; n++) value = value * 16 + digit(substr(hex, from + n, 1))
-    return value
-}
-
-# Whether no event of a list has a tick above the greatest.
-function early(hex,   i) {
-    for (i = 0; 14 * (i + 2) <= length(hex); i++) if (tick(hex, i) > most) return 0
-    return 1
-}
-
-# An event, or the number that stands for none; of a refusal both numbers are 0.
-function event(text) { return text == "-" ? 0 : text == "start" || text == "none" ? "4294967295" : text }
-
-$1 == "why" && early($3) {
-    rounds($5, "reason " bytes($2) " " bytes($3) " " $4, \
-        numbers($7 "," $8 "," event($9) "," event($10) "," $11 "," $12 "," $13))
-    seen[$7]++
-    used++
-    if (++held == 8) flush()
-}
-
 function size(hex) { return hex == "-" ? 0 : length(hex) / 2 }
 
 # The answer has no size in a vector: it is that of the bytes written, and 0 where there are none.
@@ -106,14 +81,12 @@ END {
     print "use Rattle·rules.specs.Display.{run, tick, beginning, happened}"
     print "use Rattle·rules.specs.Plans.{missing, ranksFrom, greatest}"
     print "use Rattle·rules.specs.Refusals.{checked, planned, due, firstBadTick, doubled}"
-    print "use Rattle·rules.specs.Why.{told}"
     print "use Rattle·rules.specs.Text.{digitsOf, textOf, digitCount, numberFrom, readLine, readLines, writeTests, readTests}"
-    print "use Rattle·rules.specs.Worked.{Row, row, plan, list, check, ticks, slots, text-written, text-read, reason, in-rounds}"
-    print "use Rattle·rules.specs.Worked.{found, expected}"
+    print "use Rattle·rules.specs.Worked.{Row, row, plan, list, check, ticks, slots, text-written, text-read, in-rounds, found, expected}"
     print table
     line = "tests/definitions: " used " vectors; plans accepted:"
     for (p = 0; p <= 3; p++) line = line " " p " x" plans[p] + 0
     line = line "; by number:"
-    for (n = 0; n <= 18; n++) if (seen[n]) line = line " " n " x" seen[n]
+    for (n = 0; n <= 17; n++) if (seen[n]) line = line " " n " x" seen[n]
     print line > report
 }

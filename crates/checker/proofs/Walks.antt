@@ -76,12 +76,19 @@ noted_length (Wait cause) what at buffer = refl
 
 -- ---- The loop
 
--- What holds at the loop's head, with this history: the run is on its way, and the draws made so far are noted in each buffer that has a
--- place for all.
+-- What holds at the loop's head, with this history: the run is on its way, and the draws made so far are noted.
 pub record Walking (job : Job) (events : List Event) (held : List ℕ) (d : Display) (ticks slots : List ℕ) (h : History) : Type 0 where
   pub along : Going job (follow events) (most_ticks job) held d h
-  pub at : length job.draws ≤ length ticks → map tick_of h.made ≡ take d.next ticks
-  pub from : length job.draws ≤ length slots → map slot_of h.made ≡ take d.next slots
+  pub at : map tick_of h.made ≡ take d.next ticks
+  pub from : map slot_of h.made ≡ take d.next slots
+
+-- The loop's invariant, told from what was lent: slots and places are as many as they were, and the run is on its way with some history.
+pub record Turn (job : Job) (events : List Event) (held₀ ticks₀ slots₀ held ticks slots : List ℕ) (d : Display) : Type 0 where
+  pub same_slots : length held ≡ length held₀
+  pub tick_places : length ticks ≡ length ticks₀
+  pub slot_places : length slots ≡ length slots₀
+  pub history : History
+  pub walking : Walking job events held d ticks slots history
 
 module _ (job : Job) (events : List Event) where
   pub walking_start : (held : List ℕ) (d : Display) (ticks slots : List ℕ) (h : History) → view held h d ≡ start job
@@ -91,8 +98,8 @@ module _ (job : Job) (events : List Event) where
       let made' : h.made ≡ [] = ap (λ (s : State). s.made) e in
       record {
         along = going_start job (follow events) (most_ticks job) held d h e;
-        at = λ room. rw (made', next');
-        from = λ room. rw (made', next');
+        at = rw (made', next');
+        from = rw (made', next');
       }
 
   -- A tick that was not refused, and the waits after it.
@@ -107,22 +114,22 @@ module _ (job : Job) (events : List Event) where
     same_next = ap (λ (e : Display). e.next) rested.passes ∙ counts.next
 
     pub walked_on : (ticks' slots' : List ℕ)
+        → d.next < length ticks
+        → d.next < length slots
         → ticks' ≡ noted r.on_record.happening (λ q. d.tick) d.next ticks
         → slots' ≡ noted r.on_record.happening (λ q. q) d.next slots
         → Walking job events held' later ticks' slots' (onward d r.on_record h)
-    walked_on ticks' slots' at' from' =
-        let same : length ticks' ≡ length ticks = ap length at' ∙ noted_length r.on_record.happening (λ q. d.tick) d.next ticks in
-        let same' : length slots' ≡ length slots = ap length from' ∙ noted_length r.on_record.happening (λ q. q) d.next slots in
+    walked_on ticks' slots' room room' at' from' =
         record {
           along =
               going_on job (follow events) (most_ticks job) held d h w.along within early held' r ticked went
               (NothingDue events r.display) later rested (calm job events held' (onward d r.on_record h) r.display);
-          at = λ room.
-              noted_more tick_of (λ q. d.tick) d r.on_record.happening (history_begun d r.on_record.begun h) d.next ticks (λ q. refl)
-              (omega arith) (ap (λ (l : List Drawn). map tick_of l) (begun_made d r.on_record.begun h) ∙ w.at (omega arith))
+          at =
+              noted_more tick_of (λ q. d.tick) d r.on_record.happening (history_begun d r.on_record.begun h) d.next ticks (λ q. refl) room
+              (ap (λ (l : List Drawn). map tick_of l) (begun_made d r.on_record.begun h) ∙ w.at)
               ∙ rw (same_next, at');
-          from = λ room.
-              noted_more slot_of (λ q. q) d r.on_record.happening (history_begun d r.on_record.begun h) d.next slots (λ q. refl)
-              (omega arith) (ap (λ (l : List Drawn). map slot_of l) (begun_made d r.on_record.begun h) ∙ w.from (omega arith))
+          from =
+              noted_more slot_of (λ q. q) d r.on_record.happening (history_begun d r.on_record.begun h) d.next slots (λ q. refl) room'
+              (ap (λ (l : List Drawn). map slot_of l) (begun_made d r.on_record.begun h) ∙ w.from)
               ∙ rw (same_next, from');
         }

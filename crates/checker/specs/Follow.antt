@@ -4,10 +4,10 @@ use Rattle.rules.specs.declared.Unrolled.{Unrolled}
 use Rattle.rules.specs.declared.MaybeLoad.TheVariants.{NoLoad}
 use Rattle.rules.specs.declared.Happening.{Happening}
 use Rattle.rules.specs.declared.Happening.TheVariants.{Draw, Wait}
-use Rattle.rules.specs.Job.{Call, starting_symbols}
+use Rattle.rules.specs.Job.{Call, starting_symbols, most_draws}
 use Rattle.rules.specs.LoadList.{Event}
-use Rattle.rules.specs.Display.{State, Run, Drawn, going, finished}
-use Rattle.rules.specs.Refusals.{due, closing, answer_of, draws_in, ticks_of, slots_of, lent}
+use Rattle.rules.specs.Display.{Run, finished}
+use Rattle.rules.specs.Refusals.{due, closing, answer_of, tick_of, slot_of, ticks_of, slots_of, lent}
 use Rattle.laws.specs.Limits.{Limits}
 use Rattle.sheet.specs.Size.{Sized}
 use Rattle.display.specs.View.{History, view}
@@ -45,33 +45,29 @@ abbrev pub noted : Happening → (ℕ → ℕ) → ℕ → List ℕ → List ℕ
 noted (Draw q) what at buffer = set buffer at (what q)
 noted (Wait cause) what at buffer = buffer
 
--- What the run of a whole list starts from: job and list, and the starting symbols in the slots.
-pub record MayRun (asked : Call) (list : List ℕ) (shape : Unrolled) (count : ℕ) (held : List ℕ) : Type 0 where
+-- What the run of a whole list starts from: job and list, the starting symbols in the slots, and room to note the most draws.
+pub record MayRun (asked : Call) (list : List ℕ) (shape : Unrolled) (count : ℕ) (held ticks slots : List ℕ) : Type 0 where
   pub read : BothRead asked list shape count
   pub starts : held ≡ starting_symbols asked.job
+  pub tick_room : length ticks ≡ most_draws
+  pub slot_room : length slots ≡ most_draws
 
--- The answer to a run over n draws, and how many of them are noted at the front of each buffer that has a place for them all.
+-- The answer to a run over n draws, and how many of them are noted at the front of the two buffers.
 pub record Noted (n : ℕ) (run : Run) (r : Checked) (ticks slots : List ℕ) : Type 0 where
   pub answers : r.answer ≡ answer_of run
   pub few : r.draws ≤ n
-  pub at : n ≤ length ticks → take r.draws ticks ≡ ticks_of run
-  pub from : n ≤ length slots → take r.draws slots ≡ slots_of run
-
--- A run that ended at a display, with h beside it: the answer, and how many of the draws made are handed out. What f notes of each draw, in a
--- buffer that has it of the draws made so far, is at the buffer's front.
-pub record Closes (run : Run) (d : Display) (h : History) (r : Checked) : Type 0 where
-  pub answers : r.answer ≡ answer_of run
-  pub goes : r.answer.number ≡ 0 → (s : State) × (run ≡ going s)
-  pub done : r.answer.number ≡ 0 → finished h.rest ≡ true
-  pub few : r.draws ≤ d.next
-  pub notes : (f : Drawn → ℕ) (buffer : List ℕ) → map f h.made ≡ take d.next buffer → take r.draws buffer ≡ map f (draws_in run)
+  pub at : take r.draws ticks ≡ ticks_of run
+  pub from : take r.draws slots ≡ slots_of run
 
 -- The end of a run at a display with every draw made, along any list of this many events.
 pub record Ended (count : ℕ) (d : Display) (r : Checked) : Type 0 where
-  pub shows : (held : List ℕ) (h : History) (events : List Event)
+  pub shows : (held : List ℕ) (n : ℕ) (h : History) (events : List Event) (ticks slots : List ℕ)
       → length events ≡ count
       → finished h.rest ≡ true
-      → Closes (closing events (view held h d)) d h r
+      → d.next ≤ n
+      → map tick_of h.made ≡ take d.next ticks
+      → map slot_of h.made ≡ take d.next slots
+      → Noted n (closing events (view held h d)) r ticks slots
 
 -- Rows to copy from and buffers to copy to, both with a place for each draw.
 pub record CopyRoom (draws : ℕ) (ticks slots at from : List ℕ) : Type 0 where

@@ -1,4 +1,1 @@
 pub mod Follow
-pub mod Opening
-pub mod Turn
-pub mod Accounts

@@ -1,5 +1,5 @@
 // The check of a list against a job: every refusal in its order, then the run, whose draws are handed out only where it is accepted.
-ghost use Rattle.std.specs.Prelude.{◌≡◌, length, drop};
+ghost use Rattle.std.specs.Prelude.{◌≡◌, ◌||◌, length, drop, ltb};
 ghost use Rattle.rules.specs.Job.{call, job_of};
 ghost use Rattle.rules.specs.LoadList.{events_in, head_size};
 ghost use Rattle.rules.specs.Refusals.{checked, follows, answer_of, ticks_of, slots_of, lent};
@@ -7,9 +7,18 @@ ghost use Rattle.checker.specs.Follow.{HasRoom, HandedOut};
 
 use crate::checked::{Checked, refuse};
 use crate::copy::copy_draws;
-use crate::opening::{Opening, open};
 use crate::run::run_list;
-use rules::{Answer, FREE, MOST_DRAWS, Unrolled};
+use rules::{Answer, CallReading, ListReading, MOST_DRAWS, Unrolled};
+
+// 7. There are fewer places than draws in the buffer for ticks or in the one for slots.
+fn short_room(draws: u16, ticks: usize, slots: usize) -> bool
+    ensures { result ≡ (ltb ticks draws || ltb slots draws) }
+{
+    if ticks < draws as usize {
+        return true;
+    }
+    slots < draws as usize
+}
 
 // The run of a list that is in order, with its draws handed out where it is accepted.
 fn hand_out(
@@ -27,20 +36,9 @@ fn hand_out(
     let mut from = [0u8; MOST_DRAWS as usize];
     let mut held = sheet::starting_slots(job, shape.slots);
     let k = shape.slots as usize;
-    let ran = run_list(
-        job,
-        list,
-        shape,
-        count,
-        &mut held[..k],
-        &mut at,
-        &mut from,
-        0,
-        FREE,
-    );
-    let checked = ran.checked;
-    copy_draws(ticks, slots, &at, &from, checked.draws);
-    checked
+    let ran = run_list(job, list, shape, count, &mut held[..k], &mut at, &mut from);
+    copy_draws(ticks, slots, &at, &from, ran.draws);
+    ran
 }
 
 // The check with the number of draws that it reports, for a host that has to know how much of the buffers was written.
@@ -56,10 +54,22 @@ pub fn check_draws(
     ensures ticks { ticks.new ≡ lent (ticks_of (checked (call job.now rounds) list.now (length ticks.old) (length slots.old))) ticks.old }
     ensures slots { slots.new ≡ lent (slots_of (checked (call job.now rounds) list.now (length ticks.old) (length slots.old))) slots.old }
 {
-    match open(job, list, rounds, ticks.len(), slots.len()) {
-        Opening::Shut { number, detail } => refuse(number, detail),
-        Opening::Open { shape, count } => hand_out(job, list, shape, count, ticks, slots),
+    let reading = sheet::read_call(job, rounds);
+    let CallReading::Taken(shape) = reading else {
+        return refuse(sheet::call_number(reading), 0);
+    };
+    let head = sheet::read_list(list);
+    let ListReading::Listed(count) = head else {
+        return refuse(8, 0);
+    };
+    if short_room(shape.draws, ticks.len(), slots.len()) {
+        return refuse(7, 0);
     }
+    let first = sheet::first_bad_tick(list, count);
+    if first < count as u32 {
+        return refuse(9, first);
+    }
+    hand_out(job, list, shape, count, ticks, slots)
 }
 
 // The answer to a list for this many rounds of a job. Where it is accepted, the two buffers hold the tick and the slot of each draw, and what comes after

@@ -1,15 +1,10 @@
-// The check of any load list against any job: the run along the list, and the answer with its draws; and why a draw of it waited.
-mod account;
+// The check of any load list against any job: the run along the list, and the answer with its draws.
 mod answer;
 mod checked;
 mod copy;
 mod follow;
-mod opening;
-mod reason;
 mod rest;
 mod run;
-mod turn;
 
 pub use answer::{check, check_draws};
 pub use checked::Checked;
-pub use reason::why;

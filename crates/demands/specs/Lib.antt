@@ -1,6 +1,5 @@
 pub mod Held
 pub mod Causes
-pub mod Reasons
 pub mod Fair
 pub mod Table
 pub mod TwoRocks

@@ -87,42 +87,24 @@ past_tests : (asked : Call) (list : List ℕ) (ticks slots : ℕ) (s : State) �
 unfolding checked
 past_tests asked list ticks slots s e = unless_going (first_of (check_tests asked list ticks slots)) (follows (job_of asked) (events_of list)) s e
 
--- What is known past the tests before time begins: the job is taken in its rounds, the list can be read, the lent room suffices, and no
--- event is out of order.
-pub record Begun (asked : Call) (list : List ℕ) (ticks slots : ℕ) : Type 0 where
-  pub job_taken : read_call asked ≡ Taken (unrolled asked)
-  pub list_read : bad_list list ≡ false
-  pub tick_room : length (draws_of asked) ≤ ticks
-  pub slot_room : length (draws_of asked) ≤ slots
-  pub ordered : Ruly 0 (events_of list)
-
-pub begun : (asked : Call) (list : List ℕ) (ticks slots : ℕ) → first_of (check_tests asked list ticks slots) ≡ clear → Begun asked list ticks slots
-unfolding job_tests call_tests short_check
-begun asked list ticks slots past =
-    let fails = clear_of (check_tests asked list ticks slots) past in
-    let (tick_room, slot_room) = neither _ _ (fails 7) in
-    record {
-      job_taken = clear_taken asked (clear_append (call_tests asked) _ past).0;
-      list_read = fails 8;
-      tick_room = ltb-false _ _ tick_room;
-      slot_room = ltb-false _ _ slot_room;
-      ordered = in_order (events_of list) (fails 9);
-    }
-
 -- So it is an accepted one.
 pub accepted : (asked : Call) (list : List ℕ) (ticks slots : ℕ) (s : State) → checked asked list ticks slots ≡ going s
     → Accepted asked list ticks slots s
+unfolding job_tests call_tests short_check
 accepted asked list ticks slots s e =
     let (past, f) = past_tests asked list ticks slots s e in
-    let b : Begun asked list ticks slots = begun asked list ticks slots past in
-    let p : Proper (job_of asked) = proper asked (unrolled asked) b.job_taken in
-    let (ran, over, all) = followed (job_of asked) (events_of list) p b.ordered s f in
+    let fails = clear_of (check_tests asked list ticks slots) past in
+    let reading : read_call asked ≡ Taken (unrolled asked) = clear_taken asked (clear_append (call_tests asked) _ past).0 in
+    let p : Proper (job_of asked) = proper asked (unrolled asked) reading in
+    let ordered : Ruly 0 (events_of list) = in_order (events_of list) (fails 9) in
+    let (ran, over, all) = followed (job_of asked) (events_of list) p ordered s f in
+    let (tick_room, slot_room) = neither _ _ (fails 7) in
     record {
-      job_taken = b.job_taken;
-      list_read = b.list_read;
-      tick_room = b.tick_room;
-      slot_room = b.slot_room;
-      ordered = b.ordered;
+      job_taken = reading;
+      list_read = fails 8;
+      tick_room = ltb-false _ _ tick_room;
+      slot_room = ltb-false _ _ slot_room;
+      ordered = ordered;
       ran = ran;
       over = over;
       all_begun = all;

@@ -26,7 +26,7 @@ pub record ListRead (list : List ℕ) (count : ℕ) : Type 0 where
   pub counts : count_of list ≡ count
   pub sized : Sized count list
 
-pub listed : (list : List ℕ) (count : ℕ) → read_list list ≡ Listed count → ListRead list count
+listed : (list : List ℕ) (count : ℕ) → read_list list ≡ Listed count → ListRead list count
 listed list count e =
     by_test (bad_list list)
     (λ bad. let z : ◌≡◌ {A = ℕ} 0 1 = let g : Unreadable ≡ Listed count = rw bad at e in cc in absurd (omega arith))

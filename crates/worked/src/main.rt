@@ -1,17 +1,14 @@
 // The worked cases of document 01, built in: checks and plans of its rows, every edge that it names, where the longest wait can be,
-// symbols that are never drawn again (document 02, "Four"), a case for each refusal number, the largest job, sheets that are
-// redrawn (document 02, "Five"), why draws waited (document 02, "Six"), and lists as text (document 02, "Three"). Each is a line,
-// and `stdout` has what every line must be.
+// symbols that are never drawn again (document 02, "Four"), a case for each refusal number, the largest job, sheets that are redrawn
+// (document 02, "Five"), and lists as text (document 02, "Three"). Each is a line, and `stdout` has what every line must be.
 mod check_case;
 mod checks;
 mod make;
 mod plan_case;
 mod plans;
-mod reasons;
 mod rounds;
 mod text_case;
 mod texts;
-mod why_case;
 
 fn main() {
     checks::rows();
@@ -32,11 +29,6 @@ fn main() {
     rounds::refused_plans();
     rounds::refused_checks();
     rounds::too_long();
-    reasons::rows();
-    reasons::ways();
-    reasons::parts();
-    reasons::rounds();
-    reasons::refused();
     texts::written();
     texts::refused_lists();
     texts::read();

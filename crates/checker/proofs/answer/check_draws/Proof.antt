@@ -1,72 +1,68 @@
--- `check_draws` meets its contract: it is shut with a refusal, or open, and then it hands out what its run does.
-use mathlib.Core.Path.{◌≡◌, sym, ◌∙◌}
+-- `check_draws` meets its contract: its tests are walked in the order of the definition, whatever that order is.
 use lib.ListN.{length}
 use borrow.Author.Rules.{rules}
 use Rattle.rules.specs.Job.{call}
-use Rattle.rules.specs.Order.{first_of}
+use Rattle.rules.specs.Order.{clear}
 use Rattle.rules.specs.Refusals.{check_tests}
-use Rattle.checker.proofs.Answers.{Past, shut_met, open_past, refuses, roomy, hands_out}
+use Rattle.laws.proofs.Verdicts.{Gives, end, stop, step}
+use Rattle.laws.proofs.Jobs.{at_call, past_call}
+use Rattle.sheet.proofs.Lists.{at_list, past_list, is_sized, at_order, past_order}
+use Rattle.checker.proofs.Answers.{room_test_lem, refuses, hands_out, roomy}
 use Rattle.checker.proofs.answer.check_draws.Statement.{statement}
 use Rattle.checker.proofs.answer.check_draws.Tie as tie
 
-open-requires : tie.Need-open-requires
-open-requires c κs = search rules
+ruleset walk = (at_call, past_call, at_list, past_list, stop, step, end, room_test_lem, at_order, past_order, is_sized, roomy)
 
-enum-known-number : tie.Need-enum-known-number
-enum-known-number c = search rules
+-- Where the list is handed out all tests are walked. What is known after that call is too much for a search, so they are walked before it.
+abbrev before_it : tie.After-hand-out → tie.After-hand-out-arg
+before_it p = search
 
-refuse-requires : tie.Need-refuse-requires
-refuse-requires c κs = search rules
+abbrev at_start : tie.After-hand-out-arg → tie.Start
+at_start p = search
 
-enum-known-shape : tie.Need-enum-known-shape
-enum-known-shape c = search rules
+abbrev at-call-read : tie.After-hand-out-arg → tie.After-read-call
+at-call-read p = search
 
--- Where it is open all tests are past.
-module _ (q : tie.After-shape) where
-  abbrev at_open : tie.After-open
-  at_open = search
+abbrev at-taken : tie.After-hand-out-arg → tie.After-reading
+at-taken p = search
 
-  abbrev at_start : tie.Start
-  at_start = search
+abbrev at-list-read : tie.After-hand-out-arg → tie.After-read-list
+at-list-read p = search
 
-  past : Past
-      (first_of (check_tests (call at_start.args.job.now at_start.args.rounds) at_start.args.list.now (length at_start.args.ticks.now)
-      (length at_start.args.slots.now)))
-      (call at_start.args.job.now at_start.args.rounds) at_start.args.list.now q.shape.given.0.0 q.shape.given.0.1.0
-  past = open_past _ _ _ _ _ (sym at_open.open.ensures ∙ q.shape.given.1)
-
-hand-out-requires : tie.Need-hand-out-requires
-hand-out-requires c κs = let q : tie.After-shape = search in roomy _ _ _ _ _ _ (past q)
-
-returns : tie.Need-returns
-returns c =
-    let after : tie.After-refuse = search in
-    let q : tie.After-number = search in
-    let o : tie.After-open = search in
-    refuses _ _ _ _ _ _ _ after.refuse.ensures (shut_met _ _ _ _ _ (sym o.open.ensures ∙ q.number.given.1))
-
-same_length : tie.Need-same-length
-same_length c = search rules
-
-same-length-2 : tie.Need-same-length-2
-same-length-2 c = search rules
-
-returns-2 : tie.Need-returns-2
-returns-2 c =
-    let after : tie.After-hand-out = search in
-    let q : tie.After-shape = search in
-    hands_out _ _ _ _ _ _ _ (past q) _ _ after.hand-out.ensures
+past_tests : (p : tie.After-hand-out-arg)
+    → Gives
+    (check_tests (call (at_start p).args.job.now (at_start p).args.rounds) (at_start p).args.list.now (length (at_start p).args.ticks.now)
+    (length (at_start p).args.slots.now))
+    clear
+past_tests p = search walk depth 20 fits 4000
 
 pub check-draws-spec : {M : Type 1} → statement M
 check-draws-spec =
     tie.close
     (tie.spec
-    open-requires
-    enum-known-number
-    refuse-requires
-    enum-known-shape
-    hand-out-requires
-    returns
-    same_length
-    same-length-2
-    returns-2)
+    (λ c κs. search rules)
+    (λ c. search rules)
+    (λ c. search rules)
+    (λ c κs. search rules)
+    (λ c κs. search rules)
+    (λ c. refuses _ _ _ _ _ (let p : tie.After-call-number = search in p.call_number_lem.result) 0 (search) (search walk depth 20 fits 4000))
+    (λ c κs. search rules)
+    (λ c. search rules)
+    (λ c. search rules)
+    (λ c κs. search rules)
+    (λ c. refuses _ _ _ _ _ 8 0 (search) (search walk depth 20 fits 4000))
+    (λ c κs. search rules)
+    (λ c κs. search rules)
+    (λ c. refuses _ _ _ _ _ 7 0 (search) (search walk depth 20 fits 4000))
+    (λ c κs. search walk depth 20 fits 4000)
+    (λ c. search rules)
+    (λ c κs. search rules)
+    (λ c. refuses _ _ _ _ _ 9 (let p : tie.After-first-bad-tick = search in p.first_bad_tick_lem.result) (search) (search walk depth 20 fits 4000))
+    (λ c κs. search walk depth 20 fits 4000)
+    (λ c. search rules)
+    (λ c. search rules)
+    (λ c.
+    let p : tie.After-hand-out = search in
+    let q = before_it p in
+    hands_out _ _ _ _ _ (at-call-read q).read_call_lem.result (at-list-read q).read_list_lem.result _ _ _ _ (at-call-read q).read_call_lem.ensures
+    (at-taken q).reading.given.1 (search) (search) p.hand-out.ensures (past_tests q)))

@@ -58,7 +58,7 @@ slice-aggregate-run-list-3 c = search rules
 run-list-requires : tie.Need-run-list-requires
 run-list-requires c κs =
     let p : tie.After-starting-slots = search in
-    record { read = (at_start p).pre.read; starts = starts p }
+    record { read = (at_start p).pre.read; starts = starts p; tick_room = search rules; slot_room = search rules }
 
 -- The run has ended: as many draws are noted as both the own and the lent buffers have room for.
 module _ (p : tie.After-run-list) where
@@ -71,21 +71,19 @@ module _ (p : tie.After-run-list) where
   abbrev noted' : List ℕ
   noted' = p.run-list.last.1.1.1.1.1.1.0
 
-  whole_room : (length (draws_of (asked at_slots)) ≤ length noted) × (length (draws_of (asked at_slots)) ≤ length noted')
-  whole_room =
+  own_room : (p.run-list.result.draws ≤ length noted) × (p.run-list.result.draws ≤ length noted')
+  own_room =
+      let few = p.run-list.ensures.few in
       let draws = many at_slots in
       let most = (limits at_slots).few_draws in
       let long = p.run-list.kept.1.1.1.1.1.0 in
       let long' = p.run-list.kept.1.1.1.1.1.1.0 in
-      (omega (arith, long), omega (arith, long'))
+      (omega (arith, few, long), omega (arith, few, long'))
 
-  own_room : (p.run-list.result.checked.draws ≤ length noted) × (p.run-list.result.checked.draws ≤ length noted')
-  own_room = let few = p.run-list.ensures.notes.few in let whole = whole_room in (omega (arith, few, whole), omega (arith, few, whole))
-
-  lent-room : (p.run-list.result.checked.draws ≤ length (at_start at_slots).args.ticks.now)
-      × (p.run-list.result.checked.draws ≤ length (at_start at_slots).args.slots.now)
+  lent-room : (p.run-list.result.draws ≤ length (at_start at_slots).args.ticks.now)
+      × (p.run-list.result.draws ≤ length (at_start at_slots).args.slots.now)
   lent-room =
-      let few = p.run-list.ensures.notes.few in
+      let few = p.run-list.ensures.few in
       let draws = many at_slots in
       let pre = (at_start at_slots).pre in
       (omega (arith, few, pre), omega (arith, few, pre))
@@ -115,13 +113,13 @@ returns c =
     let copied : tie.After-copy-draws = search in
     let p = at-run copied in
     let a = (at_start (at_slots p)).args in
-    let shown = p.run-list.ensures.notes in
-    let draws = p.run-list.result.checked.draws in
+    let shown = p.run-list.ensures in
+    let draws = p.run-list.result.draws in
     record {
       answers = shown.answers;
-      many = sym (length-take-le draws (noted p) (own_room p).0) ∙ ap length (shown.at (whole_room p).0);
-      at = copied.copy-draws.ensures.0 ∙ copied_lent (noted p) a.ticks.now _ draws (own_room p).0 (shown.at (whole_room p).0);
-      from = copied.copy-draws.ensures.1 ∙ copied_lent (noted' p) a.slots.now _ draws (own_room p).1 (shown.from (whole_room p).1);
+      many = sym (length-take-le draws (noted p) (own_room p).0) ∙ ap length shown.at;
+      at = copied.copy-draws.ensures.0 ∙ copied_lent (noted p) a.ticks.now _ draws (own_room p).0 shown.at;
+      from = copied.copy-draws.ensures.1 ∙ copied_lent (noted' p) a.slots.now _ draws (own_room p).1 shown.from;
     }
 
 pub hand-out-spec : {M : Type 1} → statement M

@@ -8,19 +8,18 @@ use lib.ListN.{get_or, length, drop}
 use borrow.Author.Rules.{rules}
 use Rattle.rules.specs.Job.{Call, call, Job, draws_of, job_of}
 use Rattle.rules.specs.LoadList.{Event, events_in, head_size}
-use Rattle.rules.specs.Display.{begun_by}
 use Rattle.rules.specs.Refusals.{follow}
 use Rattle.rules.specs.declared.Unrolled.{Unrolled}
 use Rattle.laws.proofs.Events.{length-events_in}
 use Rattle.display.specs.Tick.{asked_refusal}
-use Rattle.display.specs.View.{History, view, history_begun, Lands}
+use Rattle.display.specs.View.{History, view, history_begun, begun_by, Lands}
 use Rattle.display.specs.declared.state.Display.{Display}
 use Rattle.display.specs.declared.tick.Ticked.{Ticked}
 use Rattle.display.proofs.Keeps.{LandKeeps, land_keeps, begin_keeps, room_landed, room_begun}
 use Rattle.display.proofs.Landed.{landed_awaits}
 use Rattle.display.proofs.Views.{lands_so, begins_so}
 use Rattle.display.proofs.Ticks.{steps_so}
-use Rattle.display.proofs.Steps.{refused_recorded, ticks_recorded}
+use Rattle.display.proofs.Steps.{ticks_refused, ticks_went}
 use Rattle.laws.specs.Limits.{Limits}
 use Rattle.checker.proofs.follow.follow_tick.Statement.{statement}
 use Rattle.checker.proofs.follow.follow_tick.Tie as tie
@@ -98,7 +97,7 @@ returns c =
     let after : tie.After-refused-load = search in
     let p : tie.After-load-refusal = search in
     let some : p.load_refusal_lem.result ≡ 0 → ⊥ = search in
-    refused_recorded (job p) (follow (events p)) (held p) (held₁ p) (d p) (l p) (lands p) (at-asked-of p).asked_of.result
+    ticks_refused (job p) (follow (events p)) (held p) (held₁ p) (d p) (l p) (lands p) (at-asked-of p).asked_of.result
     (λ h remain. (at-asked-of p).asked_of.ensures) p.load_refusal_lem.result (numbered p) some after.refused_load_lem.result
     (ap (λ (t : Ticked). t.number) after.refused_load_lem.ensures) (ap (λ (t : Ticked). t.detail) after.refused_load_lem.ensures)
 
@@ -155,7 +154,7 @@ returns-2 c =
     let symbol = read.draw_symbol.result in
     let awaits : get_or (drop (d p).next (draws_of (asked p))) 0 0 ≡ symbol =
     landed_awaits symbol (limits p) (landed p) (at_start p).pre.remains read.draw_symbol.ensures in
-    ticks_recorded (job p) (follow (events p)) (held p) (held₁ p) (d p) (l p) (lands p) (at-asked-of p).asked_of.result
+    ticks_went (job p) (follow (events p)) (held p) (held₁ p) (d p) (l p) (lands p) (at-asked-of p).asked_of.result
     (λ h remain. (at-asked-of p).asked_of.ensures) p.load_refusal_lem.result (numbered p) (none b) b.begin.last.0 b.begin.result
     (begins b) symbol awaits (leb a.count (l p).loads)
     (λ h. ap (λ (n : ℕ). leb n (l p).loads) (length-events_in a.count (drop head_size a.list.now))) after.draw_or_wait.result

@@ -1,4 +1,4 @@
--- `note` meets its contract: a draw is put into each buffer.
+-- `note` meets its contract: a draw is a store in each buffer.
 use borrow.Author.Rules.{rules}
 use Rattle.checker.proofs.run.note.Statement.{statement}
 use Rattle.checker.proofs.run.note.Tie as tie
@@ -6,11 +6,14 @@ use Rattle.checker.proofs.run.note.Tie as tie
 enum-known-happening : tie.Need-enum-known-happening
 enum-known-happening c = search rules
 
-put-tick-requires : tie.Need-put-tick-requires
-put-tick-requires c κs = search rules
+mul-ticks : tie.Need-overflow-mul-ticks
+mul-ticks c = search rules
 
-put-slot-requires : tie.Need-put-slot-requires
-put-slot-requires c κs = search rules
+slice-write-ticks : tie.Need-slice-write-ticks
+slice-write-ticks c = search rules
+
+slice-write-slots : tie.Need-slice-write-slots
+slice-write-slots c = search rules
 
 enum_told : tie.Need-enum-told
 enum_told c = search rules
@@ -24,9 +27,7 @@ same-length-2 c = search rules
 returns : tie.Need-returns
 returns c =
     let h : tie.After-happening = search in
-    let t : tie.After-put-tick = search in
-    let s : tie.After-put-slot = search in
-    (simp h.happening.given.1 t.put-tick.ensures, simp h.happening.given.1 s.put-slot.ensures)
+    (simp h.happening.given.1, simp h.happening.given.1)
 
 returns-2 : tie.Need-returns-2
 returns-2 c = search rules
@@ -36,8 +37,9 @@ note-spec =
     tie.close
     (tie.spec
     enum-known-happening
-    put-tick-requires
-    put-slot-requires
+    mul-ticks
+    slice-write-ticks
+    slice-write-slots
     enum_told
     same_length
     same-length-2

@@ -1,41 +1,51 @@
--- `run_list` meets its contract: what the loop keeps is `Walking` and `Telling`, and where a turn ends the run it is as they say.
-use Prim.Native.Nat.{ℕ, ◌-◌, ◌≤◌, ◌<◌}
+-- `run_list` meets its contract: what the loop keeps is `Walking`, and each way out has its answer.
+use Prim.Native.Nat.{ℕ, ◌+◌, ◌-◌, ◌≤◌, ◌<◌}
 use native.Mathlib.Omega.{arith}
 use mathlib.Core.Path.{◌≡◌, refl, sym, ap, ◌∙◌}
 use mathlib.Core.List.{List}
 use lib.ListN.{length, drop}
 use borrow.Author.Rules.{rules}
-use Rattle.rules.specs.Job.{Call, call, Job, job_of}
+use Rattle.rules.specs.Job.{Call, call, Job, draws_of, job_of}
 use Rattle.rules.specs.LoadList.{Event, events_in, head_size}
 use Rattle.rules.specs.Refusals.{follow, most_ticks}
 use Rattle.rules.specs.declared.Unrolled.{Unrolled}
-use Rattle.display.specs.View.{at_first}
-use Rattle.display.proofs.Going.{going_may}
+use Rattle.laws.proofs.Events.{length-events_in}
+use Rattle.display.specs.View.{at_first, onward}
+use Rattle.display.specs.declared.state.Display.{Display}
+use Rattle.display.proofs.Going.{going_rests}
 use Rattle.laws.specs.Limits.{Limits}
-use Rattle.checker.specs.Turn.{GoesOn}
-use Rattle.checker.proofs.Ends.{starting_size, walking_first, turned_over, turned_on, turn_longer}
-use Rattle.checker.proofs.Walks.{Walking}
-use Rattle.checker.proofs.Tells.{Telling, Kept, telling_first, telling_on, telling_past, may_tell, kept_on, ran_out}
+use Rattle.checker.proofs.Ends.{starting_size, limit_read, shown_out, shown_up, shown_refused, walking_room, walking_first}
+use Rattle.checker.proofs.Walks.{Walking, Turn, walked_on, noted_length}
 use Rattle.checker.proofs.run.run_list.Statement.{statement}
 use Rattle.checker.proofs.run.run_list.Tie as tie
 
 abbrev invariant-loop : tie.invariant-loop
-invariant-loop job list shape count held₀ ticks₀ slots₀ until symbol d₀ account₀ held ticks slots d account =
-    Kept (job_of (call job shape.rounds)) (events_in count (drop head_size list)) until symbol held₀ ticks₀ slots₀ held ticks slots d account
+invariant-loop job list shape count held₀ ticks₀ slots₀ limit d₀ held ticks slots d =
+    Turn (job_of (call job shape.rounds)) (events_in count (drop head_size list)) held₀ ticks₀ slots₀ held ticks slots d
 
 abbrev decreases-loop : tie.decreases-loop
-decreases-loop job list shape count held₀ ticks₀ slots₀ until symbol d₀ account₀ held ticks slots d account =
-    most_ticks (job_of (call job shape.rounds)) - d.tick
+decreases-loop job list shape count held₀ ticks₀ slots₀ limit d₀ held ticks slots d = limit - d.tick
+
+add-limit : tie.Need-overflow-add-limit invariant-loop decreases-loop
+add-limit c = search rules
+
+cast-limit : tie.Need-overflow-cast-limit invariant-loop decreases-loop
+cast-limit c = search rules
+
+add-limit-2 : tie.Need-overflow-add-limit-2 invariant-loop decreases-loop
+add-limit-2 c = search rules
+
+cast-limit-2 : tie.Need-overflow-cast-limit-2 invariant-loop decreases-loop
+cast-limit-2 c = search rules
+
+add-limit-3 : tie.Need-overflow-add-limit-3 invariant-loop decreases-loop
+add-limit-3 c = search rules
 
 start-requires : tie.Need-start-requires invariant-loop decreases-loop
 start-requires c κs = search rules
 
-untold-requires : tie.Need-untold-requires invariant-loop decreases-loop
-untold-requires c κs = search rules
-
 loop-holds : tie.Need-loop-init invariant-loop decreases-loop
 loop-holds c =
-    let none : tie.After-untold invariant-loop decreases-loop = search in
     let after : tie.After-start invariant-loop decreases-loop = search in
     let s : tie.Start invariant-loop decreases-loop = search in
     let a = s.args in
@@ -47,7 +57,6 @@ loop-holds c =
       history = at_first (job_of asks);
       walking = walking_first asks (events_in a.count (drop head_size a.list.now)) a.held.now after.start.result
           a.ticks.now a.slots.now s.pre.starts after.start.ensures;
-      telling = telling_first asks _ _ _ _ _ _ s.pre.starts after.start.ensures none.untold.ensures;
     }
 
 -- A turn of the loop: the job and the list that it goes along, and what the loop has kept.
@@ -61,127 +70,199 @@ module _ (p : tie.At-loop invariant-loop decreases-loop) where
   abbrev job : Job
   job = job_of asked
 
+  abbrev shape : Unrolled
+  shape = at_start.args.shape
+
   abbrev events : List Event
   events = events_in at_start.args.count (drop head_size at_start.args.list.now)
 
-  limits : Limits asked at_start.args.shape
+  abbrev limit : ℕ
+  limit = 8388607 + 1 + shape.load_time + shape.draws
+
+  limits : Limits asked shape
   limits = at_start.pre.read.limits
+
+  many : length (draws_of asked) ≡ shape.draws
+  many = limits.many_draws
+
+  whole : limit ≡ most_ticks job
+  whole = limit_read limits
 
   walking : Walking job events p.loop.held p.loop.d p.loop.ticks p.loop.slots p.loop.inv.history
   walking = p.loop.inv.walking
 
-  telling : Telling job events at_start.args.until at_start.args.symbol p.loop.held p.loop.d p.loop.inv.history p.loop.account
-  telling = p.loop.inv.telling
+  tick_room : length p.loop.ticks ≡ 4096
+  tick_room = p.loop.inv.tick_places ∙ at_start.pre.tick_room
 
-going-out-requires : tie.Need-going-out-requires invariant-loop decreases-loop
-going-out-requires c κs = let p : tie.At-loop invariant-loop decreases-loop = search in (at_start p).pre.read.sized
+  slot_room : length p.loop.slots ≡ 4096
+  slot_room = p.loop.inv.slot_places ∙ at_start.pre.slot_room
 
-take-turn-requires : tie.Need-take-turn-requires invariant-loop decreases-loop
-take-turn-requires c κs =
-    let p : tie.At-loop invariant-loop decreases-loop = search in
-    record {
-      read = (at_start p).pre.read;
-      all_slots = p.loop.inv.same_slots ∙ starting_size (limits p) _ (at_start p).pre.starts;
-      rests = going_may (job p) (follow (events p)) (most_ticks (job p)) _ _ _ (walking p).along;
-      loads = (walking p).along.loads;
-    }
-
--- Once the turn is taken.
-module _ (p : tie.After-take-turn invariant-loop decreases-loop) where
-  abbrev at-loop : tie.At-loop invariant-loop decreases-loop
-  at-loop = search
-
-  abbrev at_out : tie.After-going-out invariant-loop decreases-loop
-  at_out = search
-
-  same_slots : length p.take-turn.last.1.1.1.1.0 ≡ length (at_start at-loop).args.held.now
-  same_slots = p.take-turn.kept.1.1.1.1.0 ∙ at-loop.loop.inv.same_slots
-
-enum-known-checked : tie.Need-enum-known-checked invariant-loop decreases-loop
-enum-known-checked c = search rules
+finish-requires : tie.Need-finish-requires invariant-loop decreases-loop
+finish-requires c κs = search rules
 
 same_length : tie.Need-same-length invariant-loop decreases-loop
-same_length c = let t : tie.After-take-turn invariant-loop decreases-loop = search in same_slots t
+same_length c = search rules
 
 same-length-2 : tie.Need-same-length-2 invariant-loop decreases-loop
-same-length-2 c = let t : tie.After-take-turn invariant-loop decreases-loop = search in (at-loop t).loop.inv.tick_places
+same-length-2 c = search rules
 
 same-length-3 : tie.Need-same-length-3 invariant-loop decreases-loop
-same-length-3 c = let t : tie.After-take-turn invariant-loop decreases-loop = search in (at-loop t).loop.inv.slot_places
+same-length-3 c = search rules
 
 returns : tie.Need-returns invariant-loop decreases-loop
 returns c =
-    let q : tie.After-checked invariant-loop decreases-loop = search in
-    let t : tie.After-take-turn invariant-loop decreases-loop = search in
-    let p = at-loop t in
-    ran_out (job p) (events p) _ _ _ _ _ _ _ _ (walking p) (telling p) _ (turned_over _ _ _ _ _ _ t.take-turn.ensures _ q.checked.given.1)
+    let p : tie.At-loop invariant-loop decreases-loop = search in
+    let over : (shape p).draws ≤ p.loop.d.next = search in
+    let draws = many p in
+    shown_out (job p) (events p) _ _ _ _ _ (walking p) (at_start p).args.count _ (omega arith) (length-events_in _ _) search
 
-enum-known-on-record : tie.Need-enum-known-on-record invariant-loop decreases-loop
-enum-known-on-record c = search rules
+cast-refuse : tie.Need-overflow-cast-refuse invariant-loop decreases-loop
+cast-refuse c = search rules
 
--- The run goes on.
-module _ (q : tie.After-on-record invariant-loop decreases-loop) where
-  abbrev at_turn : tie.After-take-turn invariant-loop decreases-loop
-  at_turn = search
+refuse-requires : tie.Need-refuse-requires invariant-loop decreases-loop
+refuse-requires c κs = search rules
 
-  abbrev goes_on : GoesOn (job (at-loop at_turn)) (events (at-loop at_turn)) (at-loop at_turn).loop.held at_turn.take-turn.last.1.1.1.1.0
-      (at-loop at_turn).loop.d q.on_record.given.0.0 q.on_record.given.0.1.0
-  goes_on = turned_on _ _ _ _ _ _ at_turn.take-turn.ensures _ _ q.on_record.given.1
+same-length-4 : tie.Need-same-length-4 invariant-loop decreases-loop
+same-length-4 c = search rules
+
+same-length-5 : tie.Need-same-length-5 invariant-loop decreases-loop
+same-length-5 c = search rules
+
+same-length-6 : tie.Need-same-length-6 invariant-loop decreases-loop
+same-length-6 c = search rules
+
+returns-2 : tie.Need-returns-2 invariant-loop decreases-loop
+returns-2 c =
+    let after : tie.After-refuse invariant-loop decreases-loop = search in
+    let p : tie.At-loop invariant-loop decreases-loop = search in
+    let more : p.loop.d.next < (shape p).draws = search in
+    let late : limit p ≤ p.loop.d.tick = search in
+    let draws = many p in
+    shown_up (job p) (events p) _ _ _ _ _ (walking p) _ (omega arith) (rw (whole p) at late) after.refuse.ensures
+
+follow-tick-requires : tie.Need-follow-tick-requires invariant-loop decreases-loop
+follow-tick-requires c κs =
+    let p : tie.At-loop invariant-loop decreases-loop = search in
+    let draws = many p in
+    let time : (job p).load_time ≡ (shape p).load_time = sym (ap (λ (s : Unrolled). s.load_time) (limits p).shaped) in
+    let short = (limits p).short_load_time in
+    let few = (limits p).few_draws in
+    let early : p.loop.d.tick < limit p = search in
+    let roomy = walking_room (job p) (events p) _ _ _ _ _ (walking p) (omega arith) (omega arith) (rw (whole p) at early) in
+    record {
+      read = (at_start p).pre.read;
+      all_slots = p.loop.inv.same_slots ∙ starting_size (limits p) _ (at_start p).pre.starts;
+      room = roomy.0;
+      few_loads = roomy.1;
+      remains = search;
+    }
+
+-- A tick that a turn makes: a draw remains, and the run is in time.
+module _ (p : tie.After-follow-tick invariant-loop decreases-loop) where
+  abbrev at-loop : tie.At-loop invariant-loop decreases-loop
+  at-loop = search
+
+  remains : at-loop.loop.d.next < (shape at-loop).draws
+  remains = search
+
+  within : at-loop.loop.d.next < length (draws_of (asked at-loop))
+  within = let draws = many at-loop in let more = remains in omega arith
+
+  soon : at-loop.loop.d.tick < limit at-loop
+  soon = search
+
+  early : at-loop.loop.d.tick < most_ticks (job at-loop)
+  early = rw (whole at-loop) at soon
+
+  room : (at-loop.loop.d.next < length at-loop.loop.ticks) × (at-loop.loop.d.next < length at-loop.loop.slots)
+  room =
+      let more = remains in
+      let few = (limits at-loop).few_draws in
+      let ticks = tick_room at-loop in
+      let slots = slot_room at-loop in
+      (omega arith, omega arith)
+
+refuse-requires-2 : tie.Need-refuse-requires-2 invariant-loop decreases-loop
+refuse-requires-2 c κs = search rules
+
+same-length-7 : tie.Need-same-length-7 invariant-loop decreases-loop
+same-length-7 c =
+    let t : tie.After-follow-tick invariant-loop decreases-loop = search in
+    t.follow-tick.kept.1.1.1.1.0 ∙ (at-loop t).loop.inv.same_slots
+
+same-length-8 : tie.Need-same-length-8 invariant-loop decreases-loop
+same-length-8 c = search rules
+
+same-length-9 : tie.Need-same-length-9 invariant-loop decreases-loop
+same-length-9 c = search rules
+
+returns-3 : tie.Need-returns-3 invariant-loop decreases-loop
+returns-3 c =
+    let after : tie.After-refuse2 invariant-loop decreases-loop = search in
+    let t : tie.After-follow-tick invariant-loop decreases-loop = search in
+    let some : t.follow-tick.result.number ≡ 0 → ⊥ = search in
+    shown_refused (job (at-loop t)) (events (at-loop t)) _ _ _ _ _ (walking (at-loop t)) (within t) (early t) _
+    t.follow-tick.result after.refuse2.result t.follow-tick.ensures some after.refuse2.ensures
 
 note-requires : tie.Need-note-requires invariant-loop decreases-loop
-note-requires c κs = search rules
+note-requires c κs =
+    let t : tie.After-follow-tick invariant-loop decreases-loop = search in
+    room t
 
-sub-turn-told : tie.Need-overflow-sub-turn-told invariant-loop decreases-loop
-sub-turn-told c = search rules
+-- The tick is noted: it was not refused, so the display went on by one tick.
+module _ (p : tie.After-note invariant-loop decreases-loop) where
+  abbrev at_tick : tie.After-follow-tick invariant-loop decreases-loop
+  at_tick = search
 
-turn-told-requires : tie.Need-turn-told-requires invariant-loop decreases-loop
-turn-told-requires c κs =
-    let q : tie.After-on-record invariant-loop decreases-loop = search in
-    let p = at-loop (at_turn q) in
-    let time : (job p).load_time ≡ (at_start p).args.shape.load_time = sym (ap (λ (s : Unrolled). s.load_time) (limits p).shaped) in
-    let short = (limits p).short_load_time in
-    let draws = (limits p).many_draws in
-    let few = (limits p).few_draws in
-    may_tell (job p) (events p) _ _ _ _ _ _ (telling p) (walking p).along _ _ _ (goes_on q) (omega arith) (omega arith)
+  unrefused : at_tick.follow-tick.result.number ≡ 0
+  unrefused = search
 
--- The draw is noted, and the account goes on with it.
-module _ (n : tie.After-note invariant-loop decreases-loop) where
-  abbrev at_on : tie.After-on-record invariant-loop decreases-loop
-  at_on = search
+  ticked : at_tick.follow-tick.result.display.tick ≡ (at-loop at_tick).loop.d.tick + 1
+  ticked = (at_tick.follow-tick.ensures.counts unrefused).tick
 
-  abbrev here : tie.At-loop invariant-loop decreases-loop
-  here = at-loop (at_turn at_on)
-
-  less : most_ticks (job here) - at_on.on_record.given.0.1.0.tick < most_ticks (job here) - here.loop.d.tick
-  less = turn_longer (job here) (events here) _ _ _ _ _ (goes_on at_on)
+after-waits-requires : tie.Need-after-waits-requires invariant-loop decreases-loop
+after-waits-requires c κs =
+    let n : tie.After-note invariant-loop decreases-loop = search in
+    let t = at_tick n in
+    let p = at-loop t in
+    record {
+      sized = (at_start p).pre.read.sized;
+      rests = rw (← whole p) at
+          (going_rests (job p) (follow (events p)) (most_ticks (job p)) _ _ _ (walking p).along (within t) (early t) _
+          t.follow-tick.result t.follow-tick.ensures (unrefused n));
+    }
 
 loop-less : tie.Need-loop-smaller invariant-loop decreases-loop
-loop-less c = let n : tie.After-note invariant-loop decreases-loop = search in less n
+loop-less c =
+    let after : tie.After-after-waits invariant-loop decreases-loop = search in
+    let n : tie.After-note invariant-loop decreases-loop = search in
+    let p = at-loop (at_tick n) in
+    let in_its_time = soon (at_tick n) in
+    let one_more = ticked n in
+    let further : after.after-waits.result.tick ≡ (at_tick n).follow-tick.result.display.tick + after.after-waits.ensures.many =
+    ap (λ (e : Display). e.tick) after.after-waits.ensures.passes in
+    omega arith
 
 loop-again : tie.Need-loop-preserved invariant-loop decreases-loop
 loop-again c =
-    let told : tie.After-turn-told invariant-loop decreases-loop = search in
+    let after : tie.After-after-waits invariant-loop decreases-loop = search in
     let n : tie.After-note invariant-loop decreases-loop = search in
-    let o = at_out (at_turn (at_on n)) in
-    let p = here n in
-    let g = goes_on (at_on n) in
-    let yet : p.loop.d.next < (at_start p).args.until = search in
-    kept_on (job p) (events p) _ _ _ _ _ _ _ _ _ _ p.loop.inv _ _ _ _ _ _ g (same_slots (at_turn (at_on n))) n.note.ensures.0
-    n.note.ensures.1
-    (telling_on (job p) (events p) _ _ _ _ _ _ (telling p) (walking p).along _ _ _ g _ o.going-out.result _ yet refl
-    (o.going-out.ensures yet) told.turn-told.ensures)
-
-loop-less-2 : tie.Need-loop-smaller-2 invariant-loop decreases-loop
-loop-less-2 c = let n : tie.After-note invariant-loop decreases-loop = search in less n
-
-loop-again-2 : tie.Need-loop-preserved-2 invariant-loop decreases-loop
-loop-again-2 c =
-    let n : tie.After-note invariant-loop decreases-loop = search in
-    let p = here n in
-    let g = goes_on (at_on n) in
-    let over : (at_start p).args.until ≤ p.loop.d.next = search in
-    kept_on (job p) (events p) _ _ _ _ _ _ _ _ _ _ p.loop.inv _ _ _ _ _ _ g (same_slots (at_turn (at_on n))) n.note.ensures.0
-    n.note.ensures.1 (telling_past (job p) (events p) _ _ _ _ _ _ (telling p) (walking p).along _ _ _ g over)
+    let t = at_tick n in
+    let p = at-loop t in
+    let l = p.loop in
+    let r = t.follow-tick.result in
+    let noted = n.note.ensures in
+    record {
+      same_slots = t.follow-tick.kept.1.1.1.1.0 ∙ l.inv.same_slots;
+      tick_places =
+          ap length noted.0 ∙ noted_length r.on_record.happening (λ q. l.d.tick) l.d.next l.ticks ∙ l.inv.tick_places;
+      slot_places =
+          ap length noted.1 ∙ noted_length r.on_record.happening (λ q. q) l.d.next l.slots ∙ l.inv.slot_places;
+      history = onward l.d r.on_record l.inv.history;
+      walking = walked_on (job p) (events p) _ _ _ _ _ (walking p) (within t) (early t) _ r t.follow-tick.ensures (unrefused n)
+          after.after-waits.result (rw (whole p) at after.after-waits.ensures) n.note.last.0 n.note.last.1.0 (room t).0
+          (room t).1 noted.0 noted.1;
+    }
 
 pub run-list-spec : {M : Type 1} → statement M
 run-list-spec =
@@ -189,21 +270,31 @@ run-list-spec =
     (tie.spec
     invariant-loop
     decreases-loop
+    add-limit
+    cast-limit
+    add-limit-2
+    cast-limit-2
+    add-limit-3
     start-requires
-    untold-requires
     loop-holds
-    going-out-requires
-    take-turn-requires
-    enum-known-checked
+    finish-requires
     same_length
     same-length-2
     same-length-3
     returns
-    enum-known-on-record
+    cast-refuse
+    refuse-requires
+    same-length-4
+    same-length-5
+    same-length-6
+    returns-2
+    follow-tick-requires
+    refuse-requires-2
+    same-length-7
+    same-length-8
+    same-length-9
+    returns-3
     note-requires
-    sub-turn-told
-    turn-told-requires
+    after-waits-requires
     loop-less
-    loop-again
-    loop-less-2
-    loop-again-2)
+    loop-again)

@@ -6,14 +6,14 @@ use mathlib.Core.List.{List}
 use mathlib.Core.Path.{◌≡◌, refl, sym, ap, ◌∙◌}
 use lib.ListN.{length, get_or, drop}
 use borrow.Author.Rules.{rules}
-use Rattle.rules.specs.Display.{Rule, begun_by}
+use Rattle.rules.specs.Display.{Rule}
 use Rattle.rules.specs.Job.{Call, call, Job, draws_of, job_of}
 use Rattle.rules.specs.Plans.{asking}
 use Rattle.rules.specs.declared.MaybeLoad.{MaybeLoad}
 use Rattle.rules.specs.declared.Unrolled.{Unrolled}
 use Rattle.laws.specs.Limits.{Limits}
 use Rattle.display.specs.Tick.{asked_refusal}
-use Rattle.display.specs.View.{History, view, history_begun, Lands}
+use Rattle.display.specs.View.{History, view, history_begun, begun_by, Lands}
 use Rattle.display.specs.declared.state.Display.{Display}
 use Rattle.display.specs.declared.tick.Ticked.{Ticked}
 use Rattle.display.proofs.Keeps.{LandKeeps, land_keeps, begin_keeps, room_landed, room_begun}

@@ -1,7 +1,7 @@
 -- `short_room` meets its contract: the tests are those of refusal 7 for a check.
 use borrow.Author.Tests.{lt-ltb, le-ltb}
-use Rattle.checker.proofs.opening.short_room.Statement.{statement}
-use Rattle.checker.proofs.opening.short_room.Tie as tie
+use Rattle.checker.proofs.answer.short_room.Statement.{statement}
+use Rattle.checker.proofs.answer.short_room.Tie as tie
 
 returns : tie.Need-returns
 returns c = simp (lt-ltb _ _ c.if1.true)
