@@ -1,6 +1,8 @@
 // Checks a load list against a job. Arguments: the files of the two and, where the sheet is drawn more than once, the number of
 // rounds. It prints `accepted`, elapsed, waits, loads and the longest single wait, and then a line for each draw of all rounds, with
 // its symbol, its tick and its slot; or `refused`, the number and the detail, and a line in words.
+#![tactic(auto)]
+
 use libc::{STDERR_FILENO, STDOUT_FILENO};
 use report::{say, say_counts, say_number};
 use rules::{Answer, CallReading};

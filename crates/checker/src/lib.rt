@@ -1,4 +1,6 @@
 // The check of any load list against any job: the run along the list, and the answer with its draws.
+#![tactic(auto)]
+
 mod answer;
 mod checked;
 mod copy;

@@ -1,4 +1,6 @@
 // What each plan asks for in a tick: the row of draws, the searches along it, the ranks of the slots, and the choice.
+#![tactic(auto)]
+
 mod ask;
 mod ranks;
 mod row;

@@ -1,5 +1,7 @@
 // The display: its state by value and its slots lent, the steps of a tick, a stretch of waits, the search for the slot of a
 // symbol, and the answer at the end of a run.
+#![tactic(auto)]
+
 mod answer;
 mod search;
 mod state;

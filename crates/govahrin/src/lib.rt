@@ -1,5 +1,7 @@
 // The C surface: plan, check, and a list as text, over byte slices and plain numbers, for a host that links the archive libgovahrin.a.
 // Here the tick of a draw is four big-endian bytes; all else is as in the crates below. No function asks anything of its caller.
+#![tactic(auto)]
+
 mod ticks;
 
 ghost use Rattle.std.specs.Prelude.{◌≡◌, ◌≤◌, length};

@@ -1,5 +1,7 @@
 // What the programs over the plans share: the plans' names, and the summary of a job by all four.
 // What speaks of no plan, and the words of refusals, belong into report.
+#![tactic(auto)]
+
 mod names;
 mod summary;
 

@@ -1,5 +1,7 @@
 // Writes the load list of a plan for a job on standard output. Arguments: the plan's name, the job's file and, where the sheet is
 // drawn more than once, the number of rounds. A refused job gets the line of its refusal on standard error, and no list.
+#![tactic(auto)]
+
 use libc::{STDERR_FILENO, STDOUT_FILENO};
 
 // The room is that of the longest list, of which as much is written as the list of the loads takes.

@@ -1,6 +1,8 @@
 // What the programs share: saying numbers, answers and refusals on a descriptor, reading the file that an argument names, and the
 // number of rounds that one names.
 // No program says or reads any of this in words of its own. What calls the library belongs into plan_report or into a program.
+#![tactic(auto)]
+
 mod file;
 mod line;
 mod rounds;

@@ -1,5 +1,6 @@
 // The words that the rules and the code share: what reading finds, what a tick brings, what a call answers.
 // Types and numbers only. What they mean is said in specs/, a file to each section of document 01.
+#![tactic(auto)]
 
 // The mark of a slot that holds no symbol.
 pub const FREE: u16 = 65535;

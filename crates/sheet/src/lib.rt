@@ -1,5 +1,7 @@
 // Jobs, alone and in rounds, and load lists as bytes: readers that answer enums, the walk along a list, its rule of ticks, and the writer of a list.
 // Every function answers for every input; what it answers is a definition of the crate `rules`.
+#![tactic(auto)]
+
 mod job;
 mod list;
 mod number;

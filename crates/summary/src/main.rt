@@ -1,4 +1,6 @@
 // Plans the job on standard input by all four plans and prints a line for each, or the line of the refusal.
+#![tactic(auto)]
+
 fn main() {
     plan_report::print_summary();
 }

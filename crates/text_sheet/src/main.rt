@@ -1,5 +1,7 @@
 // Writes a load list as text, or the load list of a text, on standard output. Arguments: `text` and the list's file, or `list` and the
 // text's file. What is refused gets the line of its refusal and a line in words on standard error, and nothing is written.
+#![tactic(auto)]
+
 use libc::{STDERR_FILENO, STDOUT_FILENO};
 use rules::Written;
 

@@ -1,6 +1,8 @@
 // The worked cases of document 01, built in: checks and plans of its rows, every edge that it names, where the longest wait can be,
 // symbols that are never drawn again (document 02, "Four"), a case for each refusal number, the largest job, sheets that are redrawn
 // (document 02, "Five"), and lists as text (document 02, "Three"). Each is a line, and `stdout` has what every line must be.
+#![tactic(auto)]
+
 mod check_case;
 mod checks;
 mod make;
