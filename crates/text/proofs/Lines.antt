@@ -9,7 +9,7 @@ use lib.Seq.{get_or-drop, drop-drop}
 use lib.Dec.{eqb}
 use borrow.Author.Tests.{le-leb, eq-eqb, ne_eqb, eqb-true, eqb-false, lt-ltb, le-ltb}
 use Rattle.rules.specs.Text.{blank, line_feed, last_slot, last_symbol, is_digit, digit_count, number_from, FieldReading, found, none, read_field}
-use Rattle.rules.specs.Text.{line, with_symbol, with_slot, with_tick, read_line}
+use Rattle.rules.specs.Text.{with_symbol, with_slot, with_tick, read_line}
 use Rattle.laws.proofs.Cases.{by_test}
 use Rattle.text.specs.declared.line.Digits.{Digits}
 use Rattle.text.specs.declared.line.FieldFound.TheVariants.{Field, NoField}

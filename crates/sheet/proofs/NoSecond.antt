@@ -1,0 +1,72 @@
+-- No public function of this crate has a second answer, and none but `first_bad_tick` asks anything of its caller.
+use mathlib.Core.Path.{refl}
+use Rattle.laws.specs.NoSecond.{NoSecond, Promise}
+use Rattle.laws.proofs.Same.{same}
+use Rattle.sheet.specs.contracts
+use Rattle.sheet.proofs.job.starting_symbol as starting_symbol
+use Rattle.sheet.proofs.job.starting_slots as starting_slots
+use Rattle.sheet.proofs.job.read_call as read_call
+use Rattle.sheet.proofs.job.call_number as call_number
+use Rattle.sheet.proofs.rounds.draw_symbol as draw_symbol
+use Rattle.sheet.proofs.list.list_size as list_size
+use Rattle.sheet.proofs.list.read_list as read_list
+use Rattle.sheet.proofs.list.read_event as read_event
+use Rattle.sheet.proofs.list.put_head as put_head
+use Rattle.sheet.proofs.list.put_event as put_event
+use Rattle.sheet.proofs.number.put_number32 as put_number32
+use Rattle.sheet.proofs.ticks.first_bad_tick as first_bad_tick
+use Rattle.sheet.proofs.walk.event_of as event_of
+
+pub starting_symbol_promise : Promise contracts.starting_symbol.ended starting_symbol.Reads.Asked starting_symbol.Reads.Learnt
+starting_symbol_promise = record { any = λ κs given. tt; one = λ κs given answer answer' left left' asked p q. (same p q, refl) }
+
+pub starting_slots_promise : Promise contracts.starting_slots.ended starting_slots.Reads.Asked starting_slots.Reads.Learnt
+starting_slots_promise = record { any = λ κs given. tt; one = λ κs given answer answer' left left' asked p q. (same p q, refl) }
+
+pub read_call_promise : Promise contracts.read_call.ended read_call.Reads.Asked read_call.Reads.Learnt
+read_call_promise = record { any = λ κs given. tt; one = λ κs given answer answer' left left' asked p q. (same p q, refl) }
+
+pub call_number_promise : Promise contracts.call_number.ended call_number.Reads.Asked call_number.Reads.Learnt
+call_number_promise = record { any = λ κs given. tt; one = λ κs given answer answer' left left' asked p q. (same p q, refl) }
+
+pub draw_symbol_promise : Promise contracts.draw_symbol.ended draw_symbol.Reads.Asked draw_symbol.Reads.Learnt
+draw_symbol_promise = record { any = λ κs given. tt; one = λ κs given answer answer' left left' asked p q. (same p q, refl) }
+
+pub list_size_promise : Promise contracts.list_size.ended list_size.Reads.Asked list_size.Reads.Learnt
+list_size_promise = record { any = λ κs given. tt; one = λ κs given answer answer' left left' asked p q. (same p q, refl) }
+
+pub read_list_promise : Promise contracts.read_list.ended read_list.Reads.Asked read_list.Reads.Learnt
+read_list_promise = record { any = λ κs given. tt; one = λ κs given answer answer' left left' asked p q. (same p q, refl) }
+
+pub read_event_promise : Promise contracts.read_event.ended read_event.Reads.Asked read_event.Reads.Learnt
+read_event_promise = record { any = λ κs given. tt; one = λ κs given answer answer' left left' asked p q. (same p q, refl) }
+
+pub event_of_promise : Promise contracts.event_of.ended event_of.Reads.Asked event_of.Reads.Learnt
+event_of_promise = record { any = λ κs given. tt; one = λ κs given answer answer' left left' asked p q. (same p q, refl) }
+
+-- It asks for a list of the size that its events need.
+pub first_bad_tick_one : NoSecond contracts.first_bad_tick.ended first_bad_tick.Reads.Asked first_bad_tick.Reads.Learnt
+first_bad_tick_one κs given answer answer' left left' asked p q = (same p q, refl)
+
+-- The writers leave one content of the room.
+pub put_head_promise : Promise contracts.put_head.ended put_head.Reads.Asked put_head.Reads.Learnt
+put_head_promise =
+    record {
+      any = λ κs given. tt;
+      one = λ κs given answer answer' left left' asked p q. (same p.0 q.0, λ i. (same p.1 q.1 i, (tt, tt)));
+    }
+
+pub put_event_promise : Promise contracts.put_event.ended put_event.Reads.Asked put_event.Reads.Learnt
+put_event_promise =
+    record {
+      any = λ κs given. tt;
+      one = λ κs given answer answer' left left' asked p q.
+          (same p.0 q.0, λ i. (same p.1 q.1 i, (tt, (tt, (tt, (tt, tt))))));
+    }
+
+pub put_number32_promise : Promise contracts.put_number32.ended put_number32.Reads.Asked put_number32.Reads.Learnt
+put_number32_promise =
+    record {
+      any = λ κs given. tt;
+      one = λ κs given answer answer' left left' asked p q. (refl, λ i. (same p q i, (tt, (tt, tt))));
+    }
