@@ -18,7 +18,7 @@ pub const MOST_EVENTS: u16 = 4096;
 pub const LAST_TICK: u32 = 8388607;
 
 // The size of a job: its slots k, its load time F in ticks and its draws n.
-#[derive(Drop)]
+#[derive(Clone, Copy)]
 pub struct Shape {
     pub slots: u8,
     pub load_time: u16,
@@ -26,7 +26,7 @@ pub struct Shape {
 }
 
 // The size of what a call asks about: the slots and the load time of its job, the rounds, the draws of one round, and those of all.
-#[derive(Drop)]
+#[derive(Clone, Copy)]
 pub struct Unrolled {
     pub slots: u8,
     pub load_time: u16,
@@ -36,42 +36,42 @@ pub struct Unrolled {
 }
 
 // What reading a call finds: its size, or the number of its one refusal.
-#[derive(Drop)]
+#[derive(Clone, Copy)]
 pub enum CallReading {
     Taken(Unrolled),
     Refused(u32),
 }
 
 // What reading the head of a load list finds: the number of its events, or that it is no list.
-#[derive(Drop)]
+#[derive(Clone, Copy)]
 pub enum ListReading {
     Listed(u16),
     Unreadable,
 }
 
 // What reading an event finds in the part of a list that begins at it: the event, or too few bytes for one.
-#[derive(Drop)]
+#[derive(Clone, Copy)]
 pub enum EventReading {
     Event { tick: u32, slot: u8, symbol: u16 },
     Short,
 }
 
 // The load that begins in a tick, if one does.
-#[derive(Drop)]
+#[derive(Clone, Copy)]
 pub enum MaybeLoad {
     Load { slot: u8, symbol: u16 },
     NoLoad,
 }
 
 // The loader: idle, or at work on a load. `left` counts the ticks that pass before the one in which the load ends.
-#[derive(Drop)]
+#[derive(Clone, Copy)]
 pub enum Loading {
     Idle,
     Under { left: u16, slot: u8, symbol: u16 },
 }
 
 // Why a tick is a wait: the awaited symbol is being loaded, another symbol is, or nothing is.
-#[derive(Drop)]
+#[derive(Clone, Copy)]
 pub enum Cause {
     Awaited,
     Another,
@@ -79,14 +79,14 @@ pub enum Cause {
 }
 
 // What happens in a tick: a draw from a slot, or a wait with its cause.
-#[derive(Drop)]
+#[derive(Clone, Copy)]
 pub enum Happening {
     Draw { slot: u8 },
     Wait(Cause),
 }
 
 // A tick on record: the load begun in it, beside what happened.
-#[derive(Drop)]
+#[derive(Clone, Copy)]
 pub struct TickRecord {
     pub begun: MaybeLoad,
     pub happening: Happening,
@@ -94,7 +94,7 @@ pub struct TickRecord {
 
 // What a plan or a check answers: number 0 and the model's counts, or a refusal's number and detail and no counts.
 #[repr(C)]
-#[derive(Drop)]
+#[derive(Clone, Copy)]
 pub struct Answer {
     pub number: u32,
     pub detail: u32,
@@ -106,7 +106,7 @@ pub struct Answer {
 
 // What a call that writes into lent room answers: number 0 and the bytes written, or a refusal's number and detail and no bytes.
 #[repr(C)]
-#[derive(Drop)]
+#[derive(Clone, Copy)]
 pub struct Written {
     pub number: u32,
     pub detail: u32,
