@@ -8,7 +8,7 @@ use rules::{FREE, MaybeLoad};
 
 // The ticks passed, the waits and loads so far, the waits since the last draw and the most of them before one draw, and the next draw
 // number; then the load under way: in how many ticks it ends, or 0 where none is under way, and its slot and its symbol.
-#[derive(Drop)]
+#[derive(Clone, Copy)]
 pub struct Display {
     pub tick: u32,
     pub waits: u32,
