@@ -8,14 +8,15 @@ use Rattle.laws.proofs.Same.{same}
 use Rattle.rules.specs.Job.{Job}
 use Rattle.display.specs.View.{History}
 use Rattle.choice.specs.Asks.{Lent}
+use Rattle.choice.specs.contracts
 use Rattle.choice.proofs.row.row_of as row_of
 use Rattle.choice.proofs.ask.asked_of as asked_of
 
-pub row_of_one : NoSecond row_of.ended row_of.Reads.Asked row_of.Reads.Learnt
+pub row_of_one : NoSecond contracts.row_of.ended row_of.Reads.Asked row_of.Reads.Learnt
 row_of_one κs given answer answer' left left' asked p q = (same p q, refl)
 
 -- A job that has these slots and these draws decides what is asked for.
-pub asked_of_one : NoSecond asked_of.ended asked_of.Reads.Asked asked_of.Reads.Learnt
+pub asked_of_one : NoSecond contracts.asked_of.ended asked_of.Reads.Asked asked_of.Reads.Learnt
 asked_of_one κs given answer answer' left left' asked p q =
     let slots = given.1.0.now in
     let d = given.1.1.0 in
