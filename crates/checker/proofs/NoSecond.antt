@@ -1,11 +1,12 @@
 -- No public function of this crate has a second answer, and none asks anything of its caller.
 use Rattle.laws.specs.NoSecond.{Promise}
 use Rattle.laws.proofs.Same.{same}
+use Rattle.checker.specs.contracts
 use Rattle.checker.proofs.answer.check as check
 use Rattle.checker.proofs.answer.check_draws as check_draws
 
 -- A check has one answer, and one content of each of its two buffers later.
-pub check_promise : Promise check.ended check.Reads.Asked check.Reads.Learnt
+pub check_promise : Promise contracts.check.ended check.Reads.Asked check.Reads.Learnt
 check_promise =
     record {
       any = λ κs given. tt;
@@ -16,7 +17,7 @@ check_promise =
     }
 
 -- So it has with the number of its draws.
-pub check_draws_promise : Promise check_draws.ended check_draws.Reads.Asked check_draws.Reads.Learnt
+pub check_draws_promise : Promise contracts.check_draws.ended check_draws.Reads.Asked check_draws.Reads.Learnt
 check_draws_promise =
     record {
       any = λ κs given. tt;

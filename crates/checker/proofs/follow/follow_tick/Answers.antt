@@ -1,0 +1,52 @@
+-- The three steps are a tick along the list: one that is refused, or one that goes on.
+use Rattle.std.proofs.Common.{ℕ, ◌≡◌, sym, ap, ◌∙◌, length, drop}
+use lib.Dec.{leb}
+use Rattle.rules.specs.declared.Unrolled.{Unrolled}
+use Rattle.rules.specs.Job.{call, job_of}
+use Rattle.rules.specs.LoadList.{events_in, head_size}
+use Rattle.rules.specs.Refusals.{follow}
+use Rattle.laws.proofs.Events.{length-events_in}
+use Rattle.display.specs.declared.tick.Ticked.{Ticked}
+use Rattle.display.proofs.Keeps.{land_keeps}
+use Rattle.display.proofs.Landed.{landed_awaits}
+use Rattle.display.proofs.Views.{lands_so, begins_so}
+use Rattle.display.proofs.Ticks.{steps_so}
+use Rattle.display.proofs.Steps.{ticks_refused, ticks_went}
+use Rattle.checker.proofs.follow.follow_tick.Goals as goal
+
+pub returns-then-number-ne0 : goal.returns-then-number-ne0
+returns-then-number-ne0 c =
+    let a = c.args in
+    let held = a.held.now in
+    let held₁ = c.land-landed.new.slots in
+    let l = c.land-landed.result in
+    let job = job_of (call a.job.now a.shape.rounds) in
+    let rule = follow (events_in a.count (drop head_size a.list.now)) in
+    let limits = c.requires.read.limits in
+    let lands = lands_so held held₁ a.d l c.land-landed.ensures.display c.land-landed.ensures.slots in
+    let size : job.slots ≡ length held₁ = sym (c.land-landed.auto.slots ∙ c.requires.all_slots ∙ ap (λ (s : Unrolled). s.slots) limits.shaped) in
+    ticks_refused job rule held held₁ a.d l lands c.asked_of-asked.result (λ h remain. c.asked_of-asked.ensures) c.load_refusal-number.result
+    (λ h. c.load_refusal-number.ensures h job size) c.if-number-ne0.true c.refused_load.result
+    (ap (λ (t : Ticked). t.number) c.refused_load.ensures) (ap (λ (t : Ticked). t.detail) c.refused_load.ensures)
+
+pub returns : goal.returns
+returns c =
+    let a = c.args in
+    let held = a.held.now in
+    let held₁ = c.land-landed.new.slots in
+    let l = c.land-landed.result in
+    let job = job_of (call a.job.now a.shape.rounds) in
+    let rule = follow (events_in a.count (drop head_size a.list.now)) in
+    let limits = c.requires.read.limits in
+    let lands = lands_so held held₁ a.d l c.land-landed.ensures.display c.land-landed.ensures.slots in
+    let size : job.slots ≡ length held₁ = sym (c.land-landed.auto.slots ∙ c.requires.all_slots ∙ ap (λ (s : Unrolled). s.slots) limits.shaped) in
+    let begins =
+    begins_so _ c.asked_of-asked.result held₁ c.begin-begun.new.slots l c.begin-begun.result limits.some_load_time
+    c.begin-begun.ensures.display c.begin-begun.ensures.slots in
+    let time = sym (ap (λ (s : Unrolled). s.load_time) limits.shaped) in
+    let awaits = landed_awaits c.draw_symbol-symbol.result limits (land_keeps held held₁ a.d l lands) c.requires.remains c.draw_symbol-symbol.ensures in
+    ticks_went job rule held held₁ a.d l lands c.asked_of-asked.result (λ h remain. c.asked_of-asked.ensures) c.load_refusal-number.result
+    (λ h. c.load_refusal-number.ensures h job size) c.if-number-ne0.false c.begin-begun.new.slots c.begin-begun.result
+    (λ h. begins h job time) c.draw_symbol-symbol.result awaits (leb a.count l.loads)
+    (λ h. ap (λ (n : ℕ). leb n l.loads) (length-events_in a.count (drop head_size a.list.now))) c.draw_or_wait.result
+    (steps_so _ _ _ _ _ _ c.draw_or_wait.ensures)
