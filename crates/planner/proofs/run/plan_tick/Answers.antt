@@ -1,0 +1,87 @@
+-- The three steps are a tick by what the plan asks for in the landed display: one that is refused, or one that goes on.
+use Rattle.std.proofs.Common.{◌≡◌, ℕ, List, length, get_or, drop, refl, sym, ap, ◌∙◌, true, arith}
+use Rattle.rules.specs.declared.Unrolled.{Unrolled}
+use Rattle.rules.specs.Job.{call, job_of}
+use Rattle.rules.specs.Plans.{asking}
+use Rattle.display.specs.declared.tick.Ticked.{Ticked}
+use Rattle.display.proofs.Keeps.{land_keeps}
+use Rattle.display.proofs.Landed.{landed_awaits}
+use Rattle.display.proofs.Steps.{ticks_refused, ticks_went}
+use Rattle.display.proofs.Ticks.{steps_so}
+use Rattle.display.proofs.Views.{lands_so, begins_so}
+use Rattle.choice.specs.Asks.{asks_by}
+use Rattle.planner.proofs.Walks.{asked_landed}
+use Rattle.planner.proofs.run.plan_tick.Goals as goal
+
+pub asked_of-asked-requires : goal.asked_of-asked-requires
+asked_of-asked-requires c =
+    let a = c.args in
+    let held₁ = c.land-landed.new.slots in
+    let l = c.land-landed.result in
+    let limits = c.requires.limits in
+    let lands = lands_so a.held.now held₁ a.d l c.land-landed.ensures.display c.land-landed.ensures.slots in
+    let landed = land_keeps a.held.now held₁ a.d l lands in
+    let next : l.next ≡ a.d.next = landed.next in
+    let slots : length held₁ ≡ a.shape.slots = c.land-landed.auto.slots ∙ c.requires.size in
+    let many : length a.row.now ≡ a.shape.draws = ap length (sym c.requires.draws) ∙ limits.many_draws in
+    let some = limits.some_slot in
+    let few = limits.few_slots in
+    let most = limits.few_draws in
+    let remains = c.requires.remains in
+    let awaits = landed_awaits c.draw_symbol-symbol.result limits landed remains c.draw_symbol-symbol.ensures in
+    record {
+      can = record { limits = record { some_slot = omega arith; few_slots = omega arith; few_draws = omega arith }; within = omega arith };
+      awaits =
+          ap (λ (n : ℕ). get_or (drop n a.row.now) 0 0) next
+          ∙ ap (λ (r : List ℕ). get_or (drop a.d.next r) 0 0) (sym c.requires.draws)
+          ∙ awaits;
+    }
+
+pub returns-then-number-ne0 : goal.returns-then-number-ne0
+returns-then-number-ne0 c =
+    let a = c.args in
+    let asked = call a.job.now a.shape.rounds in
+    let job = job_of asked in
+    let rule = asking (asks_by a.plan job a.order) in
+    let held = a.held.now in
+    let held₁ = c.land-landed.new.slots in
+    let l = c.land-landed.result in
+    let limits = c.requires.limits in
+    let lands = lands_so held held₁ a.d l c.land-landed.ensures.display c.land-landed.ensures.slots in
+    let landed = land_keeps held held₁ a.d l lands in
+    let size : job.slots ≡ length held₁ =
+    sym (c.land-landed.auto.slots ∙ c.requires.size ∙ ap (λ (s : Unrolled). s.slots) limits.shaped) in
+    let symbol = c.draw_symbol-symbol.result in
+    let asks =
+    asked_landed a.plan a.order a.row.now held₁ a.d l symbol c.asked_of-asked.result limits landed c.requires.remains
+    c.draw_symbol-symbol.ensures size c.requires.draws c.asked_of-asked.ensures in
+    ticks_refused job rule held held₁ a.d l lands c.asked_of-asked.result asks c.load_refusal-number.result
+    (λ h. c.load_refusal-number.ensures h job size) c.if-number-ne0.true c.refused_load.result
+    (ap (λ (t : Ticked). t.number) c.refused_load.ensures) (ap (λ (t : Ticked). t.detail) c.refused_load.ensures)
+
+pub returns : goal.returns
+returns c =
+    let a = c.args in
+    let asked = call a.job.now a.shape.rounds in
+    let job = job_of asked in
+    let rule = asking (asks_by a.plan job a.order) in
+    let held = a.held.now in
+    let held₁ = c.land-landed.new.slots in
+    let l = c.land-landed.result in
+    let limits = c.requires.limits in
+    let lands = lands_so held held₁ a.d l c.land-landed.ensures.display c.land-landed.ensures.slots in
+    let landed = land_keeps held held₁ a.d l lands in
+    let size : job.slots ≡ length held₁ =
+    sym (c.land-landed.auto.slots ∙ c.requires.size ∙ ap (λ (s : Unrolled). s.slots) limits.shaped) in
+    let symbol = c.draw_symbol-symbol.result in
+    let asks =
+    asked_landed a.plan a.order a.row.now held₁ a.d l symbol c.asked_of-asked.result limits landed c.requires.remains
+    c.draw_symbol-symbol.ensures size c.requires.draws c.asked_of-asked.ensures in
+    let begins =
+    begins_so _ c.asked_of-asked.result held₁ c.begin-begun.new.slots l c.begin-begun.result limits.some_load_time
+    c.begin-begun.ensures.display c.begin-begun.ensures.slots in
+    let time = sym (ap (λ (s : Unrolled). s.load_time) limits.shaped) in
+    let awaits = landed_awaits symbol limits landed c.requires.remains c.draw_symbol-symbol.ensures in
+    ticks_went job rule held held₁ a.d l lands c.asked_of-asked.result asks c.load_refusal-number.result
+    (λ h. c.load_refusal-number.ensures h job size) c.if-number-ne0.false c.begin-begun.new.slots c.begin-begun.result
+    (λ h. begins h job time) symbol awaits true (λ h. refl) c.draw_or_wait.result (steps_so _ _ _ _ _ _ c.draw_or_wait.ensures)

@@ -1,0 +1,12 @@
+-- The loop keeps the run on its way and its loads noted, and each turn takes a tick of those that a list can name.
+use Rattle.std.proofs.Common.{◌-◌, length}
+use Rattle.rules.specs.Job.{call}
+use Rattle.rules.specs.LoadList.{last_tick}
+use Rattle.planner.proofs.Walks.{MidRun}
+use Rattle.planner.proofs.run.run_plan.Given as goal
+
+abbrev pub invariant-loop-tick : goal.invariant-loop-tick
+invariant-loop-tick l = MidRun l.plan (call l.job l.shape.rounds) (length l.initial.held) l.orders l.held l.loads l.d
+
+abbrev pub decreases-loop-tick : goal.decreases-loop-tick
+decreases-loop-tick l = last_tick - l.d.tick
