@@ -72,3 +72,6 @@ module _ (word : List ℕ) where
     pub first_other : is_digit (get_or word 0 0) ≡ false → rounds_in word ≡ no_rounds
     unfolding rounds_in
     first_other other = ap rounds_in begins ∙ rw other
+
+-- All that reading a word byte by byte goes through.
+pub ruleset byte_by_byte = (no_bytes, first_digit, first_other, goes_on, stops, at_the_end)

@@ -1,9 +1,16 @@
 // Reading what a program is given: the file that an argument names, into a lent buffer. A buffer of one byte more than the longest
-// file of its format is enough: a longer file is judged by those bytes. What cannot be read is said in one line on standard error.
-ghost use Rattle.io.specs.Counts.{IsPrefixLen};
+// file of its format is enough: a longer file is judged by those bytes. What cannot be read is said in one line on standard error,
+// which is the writer `err`.
+ghost use Rattle.std.specs.Prelude.{◌↔◌, IsTrue, IsOk};
+ghost use Rattle.std.specs.Io.{ReadsAtMost};
+ghost use Rattle.report.specs.Reading.{IsPrefixLen};
 
-use crate::line::say;
-use libc::STDERR_FILENO;
+use crate::line::{say, say_failure};
+use std::alloc::Global;
+use std::env::FillError;
+use std::io::{Read, Write};
+use std::rt::{Env, Files};
+use std::{fs, io, str};
 
 // The bytes now at the front of the buffer, and whether the file could be read.
 #[derive(Drop)]
@@ -12,53 +19,108 @@ pub struct Reading {
     pub count: usize,
 }
 
-fn say_unread(name: &[u8]) {
-    say(STDERR_FILENO, b"cannot read ");
-    os::fail(name);
+// Whether the program was given this argument.
+pub fn has_argument<E: Env>(rt: &E, argument: usize) -> bool {
+    !matches!(rt.arg(argument, &mut []), Err(FillError::NotPresent))
 }
 
-// Whether what was read of a descriptor is all that there is or as much as was asked for. One more read tells this from a read
-// that fails, which `io::read_full` does not.
-pub fn is_read(file: i32, name: &[u8]) -> bool {
-    let mut more = [0u8; 1];
-    let got = libc::read(file, &mut more);
-    if got < 0 {
-        say_unread(name);
+fn say_unread<W: Write>(err: &mut W, alloc: Global, name: &[u8], error: &io::Error) {
+    let _ = say(err, b"cannot read ");
+    say_failure(err, alloc, name, error);
+}
+
+// The line for an argument that is not there, or that is longer than a path can be.
+fn say_unnamed<W: Write>(err: &mut W, kind: &[u8], fault: FillError) {
+    let words: &[u8] = match fault {
+        FillError::NotPresent => b": Invalid argument\n",
+        FillError::TooLong => b": File name too long\n",
+    };
+    let _ = say(err, b"cannot take the name of the ");
+    let _ = say(err, kind);
+    let _ = say(err, words);
+}
+
+// Reads until the buffer is full or the input ends, and answers how many bytes are at the front of the buffer now.
+pub fn read_full<R: Read>(input: &mut R, buffer: &mut [u8]) -> io::Result<usize>
+    ensures { ReadsAtMost result buffer.new }
+{
+    let mut count = 0;
+    while count < buffer.len() {
+        let got = input.read(&mut buffer[count..])?;
+        if got == 0 {
+            break;
+        }
+        count += got;
     }
-    got >= 0
+    Ok(count)
+}
+
+// Whether what was read is all that there is or as much as was asked for. Where it is not, what is wrong is said.
+pub fn is_read<W: Write>(err: &mut W, alloc: Global, got: &io::Result<usize>, name: &[u8]) -> bool
+    ensures { IsTrue result ↔ IsOk got.now }
+{
+    match got {
+        Ok(_) => true,
+        Err(error) => {
+            say_unread(err, alloc, name, error);
+            false
+        }
+    }
+}
+
+// The file of this path, opened to be read. One whose name is not UTF-8 text cannot be opened by std.
+fn open<R: Files>(rt: &R, path: &[u8]) -> io::Result<R::File> {
+    match str::from_utf8(path) {
+        Ok(name) => fs::open(rt, name),
+        Err(_) => Err(io::Error::new(io::ErrorKind::InvalidFilename, "the name is not UTF-8 text")),
+    }
 }
 
 // Reads the file of this path until it ends or the buffer is full, and says what is wrong where that cannot be done.
-fn read_file(path: &[u8], buffer: &mut [u8]) -> Reading
+fn read_file<R: Files + AllocGlobal, W: Write>(
+    rt: &R,
+    err: &mut W,
+    path: &[u8],
+    buffer: &mut [u8],
+) -> Reading
     ensures { IsPrefixLen result.count buffer.new }
 {
-    let file = os::open_read(path);
-    if file < 0 {
-        say_unread(path);
-        return Reading {
-            taken: false,
-            count: 0,
-        };
+    let mut file = match open(rt, path) {
+        Ok(file) => file,
+        Err(error) => {
+            say_unread(err, rt.alloc(), path, &error);
+            return Reading {
+                taken: false,
+                count: 0,
+            };
+        }
+    };
+    let got = read_full(&mut file, buffer);
+    Reading {
+        taken: is_read(err, rt.alloc(), &got, path),
+        count: got.unwrap_or(0),
     }
-    let count = io::read_full(file, buffer);
-    let taken = is_read(file, path);
-    libc::close(file);
-    Reading { taken, count }
 }
 
 // The same for the file that an argument of the program names. `kind` says what it should be.
-pub fn read_argument(argument: usize, kind: &[u8], buffer: &mut [u8]) -> Reading
+pub fn read_argument<R: Env + Files + AllocGlobal, W: Write>(
+    rt: &R,
+    err: &mut W,
+    argument: usize,
+    kind: &[u8],
+    buffer: &mut [u8],
+) -> Reading
     ensures { IsPrefixLen result.count buffer.new }
 {
-    let mut path = io::buffer();
-    let length = os::arg(argument, &mut path);
-    if os::errno() != 0 {
-        say(STDERR_FILENO, b"cannot take the name of the ");
-        os::fail(kind);
-        return Reading {
-            taken: false,
-            count: 0,
-        };
+    let mut path = [0u8; 4096];
+    match rt.arg(argument, &mut path) {
+        Ok(length) => read_file(rt, err, &path[..length], buffer),
+        Err(fault) => {
+            say_unnamed(err, kind, fault);
+            Reading {
+                taken: false,
+                count: 0,
+            }
+        }
     }
-    read_file(&path[..length], buffer)
 }

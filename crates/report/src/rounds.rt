@@ -2,6 +2,9 @@
 ghost use Rattle.std.specs.Prelude.{◌≡◌, ◌-◌, ◌≤◌};
 ghost use Rattle.report.specs.Rounds.{no_rounds, is_digit, with_byte, rounds_in};
 
+use std::env::FillError;
+use std::rt::Env;
+
 // Whether the argument is such a number, and which.
 #[derive(Drop)]
 pub struct RoundsReading {
@@ -51,6 +54,7 @@ fn with_byte(number: u32, byte: u8) -> RoundsReading
     }
 }
 
+#[tactic(auto, using(crate::proofs::Digits::byte_by_byte))]
 fn rounds_in(word: &[u8]) -> RoundsReading
     ensures { result ≡ rounds_in word.now }
 {
@@ -77,16 +81,15 @@ fn rounds_in(word: &[u8]) -> RoundsReading
     }
 }
 
-// The greatest number has 10 digits. An argument that is longer reads as no bytes, which are no number; one that is missing means
-// one round.
-pub fn rounds_argument(argument: usize) -> RoundsReading {
-    if os::arg_count() <= argument {
-        return RoundsReading {
+// The greatest number has 10 digits, so that a longer argument is none; one that is missing means one round.
+pub fn rounds_argument<E: Env>(rt: &E, argument: usize) -> RoundsReading {
+    let mut word = [0u8; 10];
+    match rt.arg(argument, &mut word) {
+        Ok(length) => rounds_in(&word[..length]),
+        Err(FillError::TooLong) => no_rounds(),
+        Err(FillError::NotPresent) => RoundsReading {
             taken: true,
             rounds: 1,
-        };
+        },
     }
-    let mut word = [0u8; 10];
-    let length = os::arg(argument, &mut word);
-    rounds_in(&word[..length])
 }

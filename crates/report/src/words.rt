@@ -1,13 +1,17 @@
 // Each refusal in words that a compositor understands, one line each. Document 01, "Refusal numbers", says when each is given.
 use crate::line::{say, say_number};
+use std::io;
+use std::io::Write;
 
 // A line about an event, a draw or a line of a text: what it is, its number, and what is wrong with it.
-fn say_of(to: i32, what: &[u8], detail: u32, wrong: &[u8]) -> bool {
-    say(to, what) && say_number(to, detail) && say(to, wrong)
+fn say_of<W: Write>(to: &mut W, what: &[u8], detail: u32, wrong: &[u8]) -> io::Result<()> {
+    say(to, what)?;
+    say_number(to, detail)?;
+    say(to, wrong)
 }
 
 // Refusals 1 to 7, of a job, a plan's number or the lent room: they have no detail.
-fn say_whole(to: i32, number: u32) -> bool {
+fn say_whole<W: Write>(to: &mut W, number: u32) -> io::Result<()> {
     match number {
         1 => say(
             to,
@@ -32,7 +36,7 @@ fn say_whole(to: i32, number: u32) -> bool {
 }
 
 // Refusals 8 to 17, of a list, a run, a text or the number of rounds.
-fn say_run(to: i32, number: u32, detail: u32) -> bool {
+fn say_run<W: Write>(to: &mut W, number: u32, detail: u32) -> io::Result<()> {
     match number {
         8 => say(
             to,
@@ -79,7 +83,7 @@ fn say_run(to: i32, number: u32, detail: u32) -> bool {
 }
 
 // The line in words for a refusal with this number and detail.
-pub fn say_words(to: i32, number: u32, detail: u32) -> bool {
+pub fn say_words<W: Write>(to: &mut W, number: u32, detail: u32) -> io::Result<()> {
     if number < 8 {
         say_whole(to, number)
     } else {
