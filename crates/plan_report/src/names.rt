@@ -2,10 +2,12 @@
 ghost use Rattle.std.specs.Prelude.{◌≡◌};
 ghost use Rattle.plan_report.specs.Names.{same_bytes, plan_named};
 
+use std::rt::Env;
+
 fn is(name: &[u8], other: &[u8]) -> bool
     ensures { result ≡ same_bytes name.now other.now }
 {
-    check::same(name, other)
+    name == other
 }
 
 // A name that no plan has gets 4, a number that no plan has.
@@ -28,8 +30,8 @@ pub fn plan_of(name: &[u8]) -> u32
 }
 
 // The longest name has 12 bytes. An argument that is missing or longer reads as no bytes, the name of no plan.
-pub fn plan_argument(argument: usize) -> u32 {
+pub fn plan_argument<E: Env>(rt: &E, argument: usize) -> u32 {
     let mut name = [0u8; 12];
-    let length = os::arg(argument, &mut name);
+    let length = rt.arg(argument, &mut name).unwrap_or(0);
     plan_of(&name[..length])
 }

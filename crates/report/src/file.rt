@@ -24,9 +24,9 @@ pub fn has_argument<E: Env>(rt: &E, argument: usize) -> bool {
     !matches!(rt.arg(argument, &mut []), Err(FillError::NotPresent))
 }
 
-fn say_unread<W: Write>(err: &mut W, alloc: Global, name: &[u8], error: &io::Error) {
+fn say_unread<W: Write>(alloc: Global, err: &mut W, name: &[u8], error: &io::Error) {
     let _ = say(err, b"cannot read ");
-    say_failure(err, alloc, name, error);
+    say_failure(alloc, err, name, error);
 }
 
 // The line for an argument that is not there, or that is longer than a path can be.
@@ -56,13 +56,13 @@ pub fn read_full<R: Read>(input: &mut R, buffer: &mut [u8]) -> io::Result<usize>
 }
 
 // Whether what was read is all that there is or as much as was asked for. Where it is not, what is wrong is said.
-pub fn is_read<W: Write>(err: &mut W, alloc: Global, got: &io::Result<usize>, name: &[u8]) -> bool
+pub fn is_read<W: Write>(alloc: Global, err: &mut W, got: &io::Result<usize>, name: &[u8]) -> bool
     ensures { IsTrue result ↔ IsOk got.now }
 {
     match got {
         Ok(_) => true,
         Err(error) => {
-            say_unread(err, alloc, name, error);
+            say_unread(alloc, err, name, error);
             false
         }
     }
@@ -88,7 +88,7 @@ fn read_file<R: Files + AllocGlobal, W: Write>(
     let mut file = match open(rt, path) {
         Ok(file) => file,
         Err(error) => {
-            say_unread(err, rt.alloc(), path, &error);
+            say_unread(rt.alloc(), err, path, &error);
             return Reading {
                 taken: false,
                 count: 0,
@@ -97,7 +97,7 @@ fn read_file<R: Files + AllocGlobal, W: Write>(
     };
     let got = read_full(&mut file, buffer);
     Reading {
-        taken: is_read(err, rt.alloc(), &got, path),
+        taken: is_read(rt.alloc(), err, &got, path),
         count: got.unwrap_or(0),
     }
 }

@@ -42,19 +42,19 @@ fn without_number(text: &str) -> &str {
     }
 }
 
-fn say_error<W: Write>(to: &mut W, alloc: Global, error: &io::Error) -> io::Result<()> {
+fn say_error<W: Write>(alloc: Global, to: &mut W, error: &io::Error) -> io::Result<()> {
     let text = format!(in alloc; "{error}")?;
     say(to, without_number(text.as_str()).as_bytes())
 }
 
-fn say_line<W: Write>(to: &mut W, alloc: Global, what: &[u8], error: &io::Error) -> io::Result<()> {
+fn say_line<W: Write>(alloc: Global, to: &mut W, what: &[u8], error: &io::Error) -> io::Result<()> {
     say(to, what)?;
     say(to, b": ")?;
-    say_error(to, alloc, error)?;
+    say_error(alloc, to, error)?;
     say(to, b"\n")
 }
 
 // The line for what could not be done, and why. Where not even that line can be written, there is nobody left to tell.
-pub fn say_failure<W: Write>(to: &mut W, alloc: Global, what: &[u8], error: &io::Error) {
-    let _ = say_line(to, alloc, what, error);
+pub fn say_failure<W: Write>(alloc: Global, to: &mut W, what: &[u8], error: &io::Error) {
+    let _ = say_line(alloc, to, what, error);
 }

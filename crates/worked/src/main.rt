@@ -12,27 +12,47 @@ mod rounds;
 mod text_case;
 mod texts;
 
-fn main() {
-    checks::rows();
-    checks::edges();
-    checks::pauses();
-    checks::refused_jobs();
-    checks::refused_lists();
-    checks::refused_runs();
-    checks::short_rooms();
-    plans::rows();
-    plans::ties();
-    plans::refused_jobs();
-    plans::refused_calls();
-    plans::largest();
-    rounds::plans();
-    rounds::rooms();
-    rounds::checks();
-    rounds::refused_plans();
-    rounds::refused_checks();
-    rounds::too_long();
-    texts::written();
-    texts::refused_lists();
-    texts::read();
-    texts::refused_texts();
+use std::io;
+use std::io::Write;
+
+fn print_checks<W: Write>(out: &mut W) -> io::Result<()> {
+    checks::rows(out)?;
+    checks::edges(out)?;
+    checks::pauses(out)?;
+    checks::refused_jobs(out)?;
+    checks::refused_lists(out)?;
+    checks::refused_runs(out)?;
+    checks::short_rooms(out)
+}
+
+fn print_plans<W: Write>(out: &mut W) -> io::Result<()> {
+    plans::rows(out)?;
+    plans::ties(out)?;
+    plans::refused_jobs(out)?;
+    plans::refused_calls(out)?;
+    plans::largest(out)
+}
+
+fn print_rounds<W: Write>(out: &mut W) -> io::Result<()> {
+    rounds::plans(out)?;
+    rounds::rooms(out)?;
+    rounds::checks(out)?;
+    rounds::refused_plans(out)?;
+    rounds::refused_checks(out)?;
+    rounds::too_long(out)
+}
+
+fn print_texts<W: Write>(out: &mut W) -> io::Result<()> {
+    texts::written(out)?;
+    texts::refused_lists(out)?;
+    texts::read(out)?;
+    texts::refused_texts(out)
+}
+
+fn main(rt: HostRuntime) -> io::Result<()> {
+    let mut out = rt.stdout();
+    print_checks(&mut out)?;
+    print_plans(&mut out)?;
+    print_rounds(&mut out)?;
+    print_texts(&mut out)
 }
