@@ -8,7 +8,6 @@ use Rattle.rules.specs.declared.Answer.{Answer}
 use Rattle.rules.specs.Job.{Call, draws_of}
 use Rattle.rules.specs.LoadList.{head_size, event_size}
 use Rattle.rules.specs.Refusals.{checked, planned, answer_of}
-use Rattle.laws.proofs.Checks.{accepted}
 use Rattle.plan_laws.proofs.Demand.{conservative_best}
 use Rattle.demands.proofs.Refusing.{check_goes}
 

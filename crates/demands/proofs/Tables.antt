@@ -70,6 +70,7 @@ unsaid holds c tested s fails d h = held_and_failed tested (s.found d h).0 fails
 -- Then what the table gives the tests come to,
 pub gives_met : (rows : List Row) (tests : List Test) (n d : ℕ) → Agree rows tests → Gives rows n d → first_of tests ≡ met n d
 unfolding Gives first_of
+gives_met rows tests n d end g = elim g [ ]
 gives_met rows tests n d (more s a) (inl (is, this)) = let (held, same) = s.found d this in rw (held, is, same)
 gives_met rows tests n d (more s a) (inr (fails, g)) = rw (untested _ _ _ s fails) (gives_met _ _ n d a g)
 
