@@ -22,22 +22,12 @@ help_check() {
 TEXT
 }
 
-help_why() {
-    cat <<'TEXT'
-  govahrin why SHEET.job WHAT [DRAW] [--rounds R] [--names FILE]
-      Why a draw waited: how many ticks, and what was loading meanwhile; the event that brought its symbol, or that it was in a
-      slot from the start; and the event that had last taken it out of a slot, where one had. Without DRAW every draw that waited
-      has such a line, the longest wait first. WHAT is a load list or a plan's name, as for `govahrin timeline`.
-TEXT
-}
-
 help_timeline() {
     cat <<'TEXT'
   govahrin timeline SHEET.job [WHAT] [--rounds R] [--text] [--from TICK] [--to TICK] [--names FILE] [-o FILE]
       A picture (SVG) of the sheet's run; with --text in plain text. WHAT is a load list or a plan's name (conservative if nothing is
       said); a plan's name wins over a file of that name, and ./opt is the file. The longest wait is marked, and where each of
-      several rounds begins. The titles of draws and waits say what `govahrin why` says. Of a refused list the run up to its
-      refusal is drawn, and the refusal marked.
+      several rounds begins. Of a refused list the run up to its refusal is drawn, and the refusal marked.
 TEXT
 }
 
@@ -94,15 +84,15 @@ SHEET.names beside SHEET.job (for show: beside the file) is taken by itself.
 
 Exit status: 0 done; 1 the job or the list was refused; 2 anything else, with one line on standard error that says what.
 A refusal is the line `refused N D`, a line in words and, where it names an event, a draw or a line, a line about that. It is said on
-standard output by the verbs that answer in words (summary, check, why, text, show), and on standard error by those that write
-a file's content (plan, list, job, timeline).
+standard output by the verbs that answer in words (summary, check, text, show), and on standard error by those that write a file's
+content (plan, list, job, timeline).
 TEXT
 }
 
 help_on() { # [VERB]
     out=''
     case ${1-} in
-    summary | plan | check | why | timeline | text | list | job | show | demo) surely_into answer help_verb "$1" ;;
+    summary | plan | check | timeline | text | list | job | show | demo) surely_into answer help_verb "$1" ;;
     '') surely_into answer help_all ;;
     *) fail "there is no verb $(shown "$1") (govahrin help names them)" ;;
     esac
@@ -117,7 +107,7 @@ help_verb() { # VERB
 help_all() {
     echo "govahrin: plan and check the symbol loads of a bridge display"
     echo
-    for verb_of_help in summary plan check why timeline text list job show demo; do "help_$verb_of_help"; done
+    for verb_of_help in summary plan check timeline text list job show demo; do "help_$verb_of_help"; done
     printf '  govahrin help [VERB], govahrin VERB --help\n      This text, or the part on a verb.\n'
     printf '  govahrin --version\n      The version, the commit, the kit that the library is proved with.\n'
     help_common

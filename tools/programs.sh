@@ -64,20 +64,6 @@ judge() { # JOB LIST [ROUNDS]
     [ -z "$why" ] || not_in_full
 }
 
-# Asks why the draw DRAW of the accepted list waited or, where DRAW is empty, every draw that did; leaves the lines at
-# $scratch/told. Of the refusals only the last is left: there is no such draw.
-account_for() { # DRAWS
-    ask told why_sheet "$scratch/sheet.job" "$scratch/sheet.list" "$ROUNDS" ${DRAW:+"$DRAW"}
-    believe told why "$1"
-    [ -z "$why" ] || not_in_full
-    [ "$verdict" = refused ] || return 0
-    [ "$number $detail" = "18 0" ] && [ -n "$DRAW" ] && [ "$DRAW" -ge "$1" ] ||
-        fail "the programs why_sheet and check_sheet differ: refused $number $detail"
-    surely_into said cat "$scratch/told"
-    explain job list
-    say_refused answer
-}
-
 # Plans $scratch/sheet.job; leaves the list at $scratch/sheet.list. A refusal is its line on standard error, and no list.
 plan_by() { # PLAN
     ask sheet.list plan_sheet "$1" "$scratch/sheet.job" "$ROUNDS"

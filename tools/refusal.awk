@@ -1,6 +1,7 @@
 # What a refusal is about, in one line: the event with its tick, slot and symbol, or the draw with its symbol, and what is in its
-# way; or the rounds with their draws. It says nothing of a refusal that is about none of these. It needs tools/account.awk and
-# tools/why_words.awk.
+# way; or the rounds with their draws. It says nothing of a refusal that is about none of these.
+
+function symbolOf(symbol) { return "symbol " symbol (symbol in nameOf ? ", " nameOf[symbol] : "") }
 
 # A tick in digits. In a text it may have more of them than an awk's number has; of a list's great number an awk may make an exponent.
 function digitsOf(tick) { return tick ~ /^[0-9]+$/ ? tick "" : sprintf("%.0f", tick) }
@@ -11,12 +12,17 @@ function tickOf(i,   digits) {
 
 function eventOf(i) { return "event " i " (tick " tickOf(i) ", slot " eventSlot[i] ", " symbolOf(eventSymbol[i]) "): " }
 
-# The slot that holds a symbol after the first `begun` events, each of which has ended.
-function slotHolding(symbol, begun,   i) {
-    startSlots()
-    for (i = 0; i < begun; i++) followEvent(i)
-    for (i = 0; i < slots - 1 && inSlot[i] != symbol; i++);
-    return i
+# The slot that holds a symbol after the first `begun` events, each of which has ended; -1 for none. The last event that took the
+# symbol out of a slot is left in takenBy, -1 for none.
+function slotHolding(symbol, begun,   held, i) {
+    for (i = 0; i < slots; i++) held[i] = starting[i]
+    takenBy = -1
+    for (i = 0; i < begun; i++) {
+        if (held[eventSlot[i]] == symbol) takenBy = i
+        held[eventSlot[i]] = eventSymbol[i]
+    }
+    for (i = 0; i < slots; i++) if (held[i] == symbol) return i
+    return -1
 }
 
 function badTick(i) {
@@ -30,17 +36,18 @@ function holder(i) {
     return "slot " slotHolding(eventSymbol[i], i) " holds it"
 }
 
+function drawOf(i) { return "draw " i " (" inRoundWords(i) symbolOf(drawn[i]) "): " }
+
 function tooMany() {
     if (!rounds) return "0 rounds: a sheet is drawn once or more"
     return sprintf("%.0f rounds of %d draw%s are %.0f draws: a list covers at most 4,096", rounds, inRound, inRound == 1 ? "" : "s",
         rounds * inRound)
 }
 
-# The draw that was asked about is none of these.
-function drawsThereAre(   all) {
-    if (!draws) return "the sheet has no draws"
-    all = countOf(draws, "draw") ", " (draws == 1 ? "draw 0" : "0 to " draws - 1)
-    return rounds == 1 ? "the sheet has " all : countOf(rounds, "round") " of " countOf(inRound, "draw") " are " all
+function takenOut(symbol) {
+    slotHolding(symbol, events)
+    if (takenBy < 0) return "it is in no slot at the start, and no event loads it"
+    return "event " takenBy " took it out of slot " eventSlot[takenBy] " at tick " eventTick[takenBy]
 }
 
 END {
@@ -49,8 +56,7 @@ END {
     if (refusal == 10) print eventOf(detail) loading(detail - 1)
     if (refusal == 11) print eventOf(detail) "the display has slots 0 to " slots - 1
     if (refusal == 12) print eventOf(detail) holder(detail)
-    if (refusal == 13) print drawOf(detail) ": " missingWords(drawn[detail])
+    if (refusal == 13) print drawOf(detail) takenOut(drawn[detail])
     if (refusal == 14) print eventOf(detail) "all " draws " draws are done by then"
     if (refusal == 17) print tooMany()
-    if (refusal == 18) print "draw " ENVIRON["DRAW"] ": " drawsThereAre()
 }

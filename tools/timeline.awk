@@ -1,10 +1,16 @@
-# Reckons what a timeline shows, from what tools/sheet.awk has read; timeline_svg.awk or timeline_text.awk draws it. It needs
-# tools/account.awk and tools/why_words.awk.
+# Reckons what a timeline shows, from what tools/sheet.awk has read; timeline_svg.awk or timeline_text.awk draws it.
 #   Shown are the ticks first to until - 1: the environment's FROM and TO, or all up to the end or the refusal.
 #   span 1 to spans: what a slot does from a tick until another. wait 1 to stretches: ticks without a draw, by their cause:
 #   L, where the awaited symbol is being loaded; O, where another is; N, where nothing is.
 #   The longest single wait, the first where several are as long, is from tick pauseFrom until pauseUntil; none where both are 0.
 #   round 0 to lastRound: each begins at tick roundFrom[]. Of a sheet that is drawn once none is told, and lastRound is -1.
+
+function stop(line) {
+    print line > "/dev/stderr"
+    exit 2
+}
+
+function countOf(count, thing) { return count " " thing (count == 1 ? "" : "s") }
 
 # How many events begin, how many ticks the run has, and the tick of a refusal, which is -1 where there is none. Refusal 14
 # comes when the run is over, so its tick is the first that is not run; it has a column of its own.
@@ -62,28 +68,28 @@ function reckonSlots(   i, slot, since) {
     for (slot = 0; slot < slots; slot++) addSpan(slot, since[slot], ticks, "held", holds[slot])
 }
 
-function addWait(from, end, cause, draw, loading) {
+function addWait(from, end, cause, awaited, loading) {
     if (from >= until || end <= first) return
     stretches++
     waitFrom[stretches] = from
     waitUntil[stretches] = end
     waitCause[stretches] = cause
-    waitDraw[stretches] = draw
+    waitAwaited[stretches] = awaited
     waitLoading[stretches] = loading
-    waitsBy[cause] += least(end, until) - most(from, first)
+    waitsOf[cause] += least(end, until) - most(from, first)
     waitsShown += least(end, until) - most(from, first)
 }
 
-# The ticks before a draw, cut where loads begin and end. The load at loadAt is the first that may matter.
-function addWaits(tick, end, draw,   to) {
+# The ticks in which a symbol is awaited, cut where loads begin and end. The load at loadAt is the first that may matter.
+function addWaits(tick, end, awaited,   to) {
     while (tick < end) {
         while (loadAt < begun && eventTick[loadAt] + loadTime <= tick) loadAt++
         if (loadAt < begun && eventTick[loadAt] <= tick) {
             to = least(eventTick[loadAt] + loadTime, end)
-            addWait(tick, to, eventSymbol[loadAt] == drawn[draw] ? "L" : "O", draw, eventSymbol[loadAt])
+            addWait(tick, to, eventSymbol[loadAt] == awaited ? "L" : "O", awaited, eventSymbol[loadAt])
         } else {
             to = loadAt < begun ? least(eventTick[loadAt], end) : end
-            addWait(tick, to, "N", draw, "")
+            addWait(tick, to, "N", awaited, "")
         }
         tick = to
     }
@@ -92,10 +98,10 @@ function addWaits(tick, end, draw,   to) {
 function reckonWaits(   draw, tick) {
     loadAt = tick = 0
     for (draw = 0; draw < made; draw++) {
-        addWaits(tick, drawTick[draw], draw)
+        addWaits(tick, drawTick[draw], drawn[draw])
         tick = drawTick[draw] + 1
     }
-    if (refusal != "" && refusal != 14) addWaits(tick, refusalTick, made)
+    if (refusal != "" && refusal != 14) addWaits(tick, refusalTick, drawn[made])
 }
 
 # Of a refused list no wait is marked: its answer has no longest wait.
@@ -121,6 +127,12 @@ function reckonRounds(   draw) {
 
 function showsRound(i) { return roundFrom[i] >= first && roundFrom[i] < until }
 
+# What the run draws must be what the sheet draws, through all rounds.
+function holdSymbols(   draw) {
+    for (draw = 0; draw < made; draw++) if (drawSymbol[draw] != drawn[draw])
+        stop("the run draws symbol " drawSymbol[draw] " as draw " draw ", and the sheet symbol " drawn[draw])
+}
+
 # Whether any of it is shown.
 function showsLongest() { return pauseUntil > first && pauseFrom < until && pauseFrom < pauseUntil }
 
@@ -135,19 +147,13 @@ function spanWords(i,   what) {
     return "slot " spanSlot[i] ": " what ", " ticksWords(spanFrom[i], spanUntil[i])
 }
 
-# A draw that was not made waits up to the refusal. Where that is its own, it is told why.
-function undrawnWords(draw) {
-    return drawOf(draw) " still waited when the list was refused" (refusal == 13 ? ": " missingWords(drawn[draw]) : "")
+function waitWords(i,   awaited, why) {
+    awaited = "symbol " symbolWords(waitAwaited[i])
+    if (waitCause[i] == "L") why = awaited " is being loaded"
+    else if (waitCause[i] == "O") why = awaited " is awaited, symbol " symbolWords(waitLoading[i]) " is being loaded"
+    else why = awaited " is awaited, nothing is being loaded"
+    return "waits, " ticksWords(waitFrom[i], waitUntil[i]) ": " why
 }
-
-function waitWords(i,   what) {
-    what = loadingWords(index("LON", waitCause[i]), 1)
-    if (waitCause[i] == "O") what = what " (" symbolOf(waitLoading[i]) ")"
-    return ticksWords(waitFrom[i], waitUntil[i]) ", while " what ": " \
-        (waitDraw[i] < made ? whyWords(waitDraw[i]) : undrawnWords(waitDraw[i]))
-}
-
-function drawWords(draw) { return "tick " drawTick[draw] ": " whyWords(draw) }
 
 function whichLongest() { return "the longest wait" (asLong > 1 ? ", the first of " asLong " as long" : "") }
 function longestWords() { return whichLongest() ": " ticksWords(pauseFrom, pauseUntil) ", before draw " pauseDraw }
@@ -155,9 +161,9 @@ function longestWords() { return whichLongest() ": " ticksWords(pauseFrom, pause
 # The waits that are shown: each cause that occurs, and their sum.
 function sumWords(   i, sum, words, letter) {
     split("L O N", letter, " ")
-    for (i = 1; i <= 3; i++) if (letter[i] in waitsBy) {
-        words = words letter[i] " " waitsBy[letter[i]] ", "
-        sum += waitsBy[letter[i]]
+    for (i = 1; i <= 3; i++) if (letter[i] in waitsOf) {
+        words = words letter[i] " " waitsOf[letter[i]] ", "
+        sum += waitsOf[letter[i]]
     }
     if (!sum) words = "no waits"
     else words = words "sum " sum
@@ -173,6 +179,8 @@ function drawsWords() { return (rounds == 1 ? "" : ENVIRON["ROUNDS"] " rounds of
 function roundWords(i) { return "round " i " begins: tick " roundFrom[i] ", draw " i * inRound }
 function rangeWords() { return "shown: " shownWords() " of 0 to " (ticks - 1) }
 
+function symbolAndName(symbol) { return "symbol " symbol (symbol in nameOf ? ", " nameOf[symbol] : "") }
+
 # An event of refusal 12 comes when no load is under way, so a slot has what holds[] says.
 function heldWords(symbol,   slot) {
     if (symbol == 65535) return "loads 65535, the mark of a free slot"
@@ -181,7 +189,7 @@ function heldWords(symbol,   slot) {
 }
 
 function eventWords(i) {
-    return "event " i " (tick " eventTick[i] ", slot " eventSlot[i] ", " symbolOf(eventSymbol[i]) ") "
+    return "event " i " (tick " eventTick[i] ", slot " eventSlot[i] ", " symbolAndName(eventSymbol[i]) ") "
 }
 
 function refusalWords(   what) {
@@ -189,14 +197,13 @@ function refusalWords(   what) {
     else if (refusal == 11) what = eventWords(detail) "names a slot that the display does not have"
     else if (refusal == 12) what = eventWords(detail) heldWords(eventSymbol[detail])
     else if (refusal == 14) what = eventWords(detail) "is left when all draws are done"
-    else what = drawOf(detail) " would wait for ever at tick " refusalTick
+    else what = "draw " detail " (" inRoundWords(detail) symbolAndName(drawn[detail]) ") would wait for ever at tick " refusalTick
     return "refused " refusal ": " what
 }
 
 END {
     readSheet()
     holdSymbols()
-    reckonAccounts()
     reckonEnd()
     reckonRange()
     reckonSlots()

@@ -242,11 +242,10 @@ function drawLongest(   band, from, end, x) {
 function drawMark(slot,   band, words) {
     if (!gathered[slot]) return
     band = bandOf(markFrom[slot])
-    if (gathered[slot] == 1) words = drawWords(markDraw[slot])
-    else words = gathered[slot] " draws of symbol " symbolWords(drawn[markDraw[slot]]) " from slot " slot ", " \
-        ticksWords(markFrom[slot], markTo[slot] + 1)
+    words = gathered[slot] == 1 ? "draw " markDraw[slot] ": " : gathered[slot] " draws of "
+    words = words "symbol " symbolWords(drawn[markDraw[slot]]) " from slot " slot ", "
     mark(across(markFrom[slot] + 0.5, band) - markWidth / 2, down(slot, band) + 16.5, \
-        (markTo[slot] - markFrom[slot]) * tickWidth + markWidth, words)
+        (markTo[slot] - markFrom[slot]) * tickWidth + markWidth, words ticksWords(markFrom[slot], markTo[slot] + 1))
     shows["draw"] = 1
     if (gathered[slot] > 1) shows["draws"] = 1
     gathered[slot] = 0
@@ -417,7 +416,7 @@ function legend(   cause, words, i) {
     if (stretches || shows["refusal"]) keys(stretches ? "waits" : "")
     split("L O N", cause, " ")
     split("the awaited symbol is being loaded;another symbol is being loaded;nothing is being loaded", words, ";")
-    for (i = 1; i <= 3; i++) if (cause[i] in waitsBy) key(cause[i], i == 3 ? "i" : "", cause[i], 24, words[i], bandWidth)
+    for (i = 1; i <= 3; i++) if (cause[i] in waitsOf) key(cause[i], i == 3 ? "i" : "", cause[i], 24, words[i], bandWidth)
     if (showsLongest()) key("bar", "", "", 24, whichLongest(), bandWidth)
     if (shows["refusal"]) key("r", "i", "!", 24, "refused", bandWidth)
 }
