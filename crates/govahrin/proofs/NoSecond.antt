@@ -1,13 +1,14 @@
 -- No function of the C surface has a second answer, and none asks anything of its caller.
 use Rattle.laws.specs.NoSecond.{Promise}
 use Rattle.laws.proofs.Same.{same}
+use Rattle.govahrin.specs.contracts
 use Rattle.govahrin.proofs.govahrin_plan as govahrin_plan
 use Rattle.govahrin.proofs.govahrin_check as govahrin_check
 use Rattle.govahrin.proofs.govahrin_write_text as govahrin_write_text
 use Rattle.govahrin.proofs.govahrin_read_text as govahrin_read_text
 
 -- A plan has one answer, and one content of the room later.
-pub govahrin_plan_promise : Promise govahrin_plan.ended govahrin_plan.Reads.Asked govahrin_plan.Reads.Learnt
+pub govahrin_plan_promise : Promise contracts.govahrin_plan.ended govahrin_plan.Reads.Asked govahrin_plan.Reads.Learnt
 govahrin_plan_promise =
     record {
       any = λ κs given. tt;
@@ -15,7 +16,7 @@ govahrin_plan_promise =
     }
 
 -- A check has one answer, and one content of each of its two buffers later.
-pub govahrin_check_promise : Promise govahrin_check.ended govahrin_check.Reads.Asked govahrin_check.Reads.Learnt
+pub govahrin_check_promise : Promise contracts.govahrin_check.ended govahrin_check.Reads.Asked govahrin_check.Reads.Learnt
 govahrin_check_promise =
     record {
       any = λ κs given. tt;
@@ -26,14 +27,14 @@ govahrin_check_promise =
     }
 
 -- The writer has one answer and one content of the text later, and the reader one of each for its list.
-pub govahrin_write_text_promise : Promise govahrin_write_text.ended govahrin_write_text.Reads.Asked govahrin_write_text.Reads.Learnt
+pub govahrin_write_text_promise : Promise contracts.govahrin_write_text.ended govahrin_write_text.Reads.Asked govahrin_write_text.Reads.Learnt
 govahrin_write_text_promise =
     record {
       any = λ κs given. tt;
       one = λ κs given answer answer' left left' asked p q. (same p.0 q.0, λ i. (tt, (same p.1 q.1 i, tt)));
     }
 
-pub govahrin_read_text_promise : Promise govahrin_read_text.ended govahrin_read_text.Reads.Asked govahrin_read_text.Reads.Learnt
+pub govahrin_read_text_promise : Promise contracts.govahrin_read_text.ended govahrin_read_text.Reads.Asked govahrin_read_text.Reads.Learnt
 govahrin_read_text_promise =
     record {
       any = λ κs given. tt;
