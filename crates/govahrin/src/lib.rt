@@ -1,5 +1,6 @@
-// The C surface: plan, check, and a list as text, over byte slices and plain numbers, for a host that links the archive libgovahrin.a.
-// Here the tick of a draw is four big-endian bytes; all else is as in the crates below. No function asks anything of its caller.
+// The C surface: plan, check, and a list as text, over byte slices and plain numbers. Crates use it from here, and a C host links the
+// archive that crates/govahrin_c makes of it; `extern "C"` holds every type to what may cross. Here the tick of a draw is four big-endian
+// bytes; all else is as in the crates below. No function asks anything of its caller.
 #![tactic(auto)]
 
 mod ticks;
