@@ -11,6 +11,7 @@ fn is(name: &[u8], other: &[u8]) -> bool
 }
 
 // A name that no plan has gets 4, a number that no plan has.
+#[tactic(auto, unfolding(crate::specs::Names::name_at))]
 pub fn plan_of(name: &[u8]) -> u32
     ensures { result ≡ plan_named name.now }
 {
