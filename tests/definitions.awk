@@ -29,16 +29,16 @@ function row(question, answer) { rows = rows "    row (" question ") " answer "\
 function flush() {
     if (!held) return
     theorems++
-    table = table "\npart-" theorems " : map found (" substr(rows, 5) "[]) ≡ map expected (" substr(rows, 5) "[])\n" \
-        "unfolding planned checked run tick beginning happened place symbols timesOver doubled missing ranksFrom greatest eventsIn eventsBytes\n" \
-        "    due firstBadTick firstOf digitsOf textOf digitCount numberFrom readLine readLines writeTests readTests\n" \
-        "part-" theorems " = refl\n"
+    table = table "\npart_" theorems " : map found (" substr(rows, 5) "[]) ≡ map expected (" substr(rows, 5) "[])\n" \
+        "unfolding planned checked run tick beginning happened place symbols times_over doubled missing ranks_from greatest events_in events_bytes\n" \
+        "    due first_bad_tick first_of digits_of text_of digit_count number_from read_line read_lines write_tests read_tests\n" \
+        "part_" theorems " = refl\n"
     rows = ""
     held = 0
 }
 
 # A question of so many rounds.
-function rounds(number, question, answer) { row("in-rounds " number " (" question ")", answer) }
+function rounds(number, question, answer) { row("in_rounds_asked " number " (" question ")", answer) }
 
 $1 == "plan" && $9 <= most {
     rounds($4, "plan " bytes($2) " " $3 " " $5, numbers($7 "," $8 "," $9 "," $10 "," $11 "," $12))
@@ -62,7 +62,7 @@ function size(hex) { return hex == "-" ? 0 : length(hex) / 2 }
 
 # The answer has no size in a vector: it is that of the bytes written, and 0 where there are none.
 /^text-/ && size($2) <= longest && size($7) <= longest {
-    row(($1 == "text-write" ? "text-written " : "text-read ") bytes($2) " " $3, \
+    row(($1 == "text-write" ? "text_written " : "text_read ") bytes($2) " " $3, \
         "(" $5 " ∷ " $6 " ∷ " size($7) " ∷ " substr(bytes($7), 2))
     seen[$5]++
     used++
@@ -72,17 +72,16 @@ function size(hex) { return hex == "-" ? 0 : length(hex) / 2 }
 END {
     flush()
     print "-- The vectors, computed with the definitions."
-    print "use mathlib.Core.Path.{_≡_, refl}"
-    print "use mathlib.Core.List.{[], _∷_, map}"
-    print "use Rattle·rules.specs.Basics.{place}"
-    print "use Rattle·rules.specs.Job.{symbols, timesOver}"
-    print "use Rattle·rules.specs.Order.{firstOf}"
-    print "use Rattle·rules.specs.LoadList.{eventsIn, eventsBytes}"
-    print "use Rattle·rules.specs.Display.{run, tick, beginning, happened}"
-    print "use Rattle·rules.specs.Plans.{missing, ranksFrom, greatest}"
-    print "use Rattle·rules.specs.Refusals.{checked, planned, due, firstBadTick, doubled}"
-    print "use Rattle·rules.specs.Text.{digitsOf, textOf, digitCount, numberFrom, readLine, readLines, writeTests, readTests}"
-    print "use Rattle·rules.specs.Worked.{Row, row, plan, list, check, ticks, slots, text-written, text-read, in-rounds, found, expected}"
+    print "use Rattle.std.specs.Prelude.{◌≡◌, refl, [], ◌∷◌, map}"
+    print "use Rattle.rules.specs.Basics.{place}"
+    print "use Rattle.rules.specs.Job.{symbols, times_over}"
+    print "use Rattle.rules.specs.Order.{first_of}"
+    print "use Rattle.rules.specs.LoadList.{events_in, events_bytes}"
+    print "use Rattle.rules.specs.Display.{run, tick, beginning, happened}"
+    print "use Rattle.rules.specs.Plans.{missing, ranks_from, greatest}"
+    print "use Rattle.rules.specs.Refusals.{checked, planned, due, first_bad_tick, doubled}"
+    print "use Rattle.rules.specs.Text.{digits_of, text_of, digit_count, number_from, read_line, read_lines, write_tests, read_tests}"
+    print "use Rattle.rules.specs.Worked.{Row, row, plan, list, check, ticks, slots, text_written, text_read, in_rounds_asked, found, expected}"
     print table
     line = "tests/definitions: " used " vectors; plans accepted:"
     for (p = 0; p <= 3; p++) line = line " " p " x" plans[p] + 0
