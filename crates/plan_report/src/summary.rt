@@ -41,11 +41,11 @@ fn print_plan<O: Write, E: Write>(
 }
 
 // A job that one plan refuses all refuse, so the first refusal is the only line; and after a line that could not be written no other is tried.
-fn print_plans<O: Write, E: Write>(alloc: Global, out: &mut O, err: &mut E, job: &[u8]) {
-    let _ = print_plan(alloc, out, err, job, b"aggressive")
+fn print_plans<O: Write, E: Write>(alloc: Global, out: &mut O, err: &mut E, job: &[u8]) -> bool {
+    print_plan(alloc, out, err, job, b"aggressive")
         && print_plan(alloc, out, err, job, b"conservative")
         && print_plan(alloc, out, err, job, b"opt")
-        && print_plan(alloc, out, err, job, b"lru");
+        && print_plan(alloc, out, err, job, b"lru")
 }
 
 // The longest job has 8,330 bytes. One more is read, so that a longer input is refused by the bytes that were read.
