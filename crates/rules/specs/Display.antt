@@ -151,6 +151,11 @@ unfolding first_of
 beginning job NoLoad s = going s
 beginning job (Load q x) s = unless (first_of (load_tests job q x s)) (going (begin job q x s))
 
+-- The state once the load that is asked for has begun, where one is.
+abbrev pub begun_by : Job → MaybeLoad → State → State
+begun_by job NoLoad s = s
+begun_by job (Load q x) s = begin job q x s
+
 -- Step 3. The symbol of the next draw, and what happens: it is drawn from the first slot that holds it, or the tick is a wait.
 abbrev pub awaited : State → ℕ
 awaited s = get_or s.rest 0 0
@@ -224,6 +229,10 @@ record_of begun s = record { begun = begun; happening = happening_of s }
 -- What is to begin is asked once a load that ends in this tick is in its slot, so the next load may begin in the same tick.
 abbrev pub asked : Rule → State → MaybeLoad
 asked rule s = rule.asks (land s)
+
+-- The record of the tick that comes, where it is not refused.
+abbrev pub record_at : Job → Rule → State → TickRecord
+record_at job rule s = record_of (asked rule s) (begun_by job (asked rule s) (land s))
 
 -- One tick: the three steps in this order.
 unfoldable pub tick : Job → Rule → State → Run

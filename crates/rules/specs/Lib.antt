@@ -5,6 +5,7 @@ pub mod LoadList
 pub mod Display
 pub mod Plans
 pub mod Refusals
+pub mod Why
 pub mod Text
 pub mod Worked
 pub mod Telling

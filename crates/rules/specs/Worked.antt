@@ -3,6 +3,7 @@
 -- Questions and answers are bytes and numbers written out. No job, list or answer is made by a definition of the other files.
 use Rattle.std.specs.Prelude.{ℕ, zero, suc, ◌+◌, ◌*◌, ◌/◌, ◌%◌, ◌≡◌, refl, Bool, cond, List, [], ◌∷◌, ◌++◌, map, length}
 use Rattle.rules.specs.declared.Answer.{Answer}
+use Rattle.rules.specs.declared.PlainReason.{PlainReason}
 use Rattle.rules.specs.declared.Shape.{Shape}
 use Rattle.rules.specs.declared.CallReading.{CallReading}
 use Rattle.rules.specs.declared.CallReading.TheVariants.{Taken, Refused}
@@ -25,6 +26,7 @@ use Rattle.rules.specs.Plans.{missing, ranks_from, greatest, rule_of}
 use Rattle.rules.specs.Refusals.{checked, checked_for_c, planned, due, follow, first_bad_tick, doubled, bad_limits, read_list}
 use Rattle.rules.specs.Refusals.{list_number, event_number, read_call, call_number}
 use Rattle.rules.specs.Refusals.{answer_of, ticks_of, slots_of, tick_bytes, written_by, lent}
+use Rattle.rules.specs.Why.{why, plain_reason}
 use Rattle.rules.specs.Text.{Writing, write_text, read_text, written_of, bytes_of}
 
 -- ---- Jobs and lists written out
@@ -91,6 +93,7 @@ load t q x = (0 ∷ t / 65536 ∷ t / 256 % 256 ∷ t % 256 ∷ q ∷ []) ++ two
 --     put-number                      the number that answers a put
 --     text-written, text-read         the answer of the writer and of the reader (number, detail, size), and the bytes that they write
 --     text-later, list-later          the lent room after the writer and after the reader
+--     reason                          why a draw waited, as a host in C is told: number, detail, brought, taken, own, another, nothing
 --     rounds-number                   what reading a job with a number of rounds finds
 --     draws-in                        the draws of all rounds
 --     in-rounds                       the question of this many rounds
@@ -112,6 +115,7 @@ pub data Question : Type 0 where
   put_number_asked : (at size : ℕ) (room : List ℕ) → Question
   text_written text_read : (bytes : List ℕ) (room : ℕ) → Question
   text_later list_later : (bytes room : List ℕ) → Question
+  reason : (job list : List ℕ) (draw : ℕ) → Question
   rounds_number draws_in_asked : (job : List ℕ) → Question
   in_rounds_asked : (rounds : ℕ) → Question → Question
 
@@ -122,6 +126,9 @@ pub data Row : Type 0 where
 
 abbrev pub numbers : Answer → List ℕ
 numbers a = a.number ∷ a.detail ∷ a.elapsed ∷ a.waits ∷ a.loads ∷ a.longest ∷ []
+
+abbrev pub reason_numbers : PlainReason → List ℕ
+reason_numbers r = r.number ∷ r.detail ∷ r.brought ∷ r.taken ∷ r.own ∷ r.another ∷ r.nothing ∷ []
 
 abbrev pub writing_found : Writing → List ℕ
 writing_found w = (written_of w).number ∷ (written_of w).detail ∷ (written_of w).size ∷ bytes_of w
@@ -219,6 +226,7 @@ answer_in r (text_written l room) = writing_found (write_text l room)
 answer_in r (text_read t room) = writing_found (read_text t room)
 answer_in r (text_later l room) = lent (bytes_of (write_text l (length room))) room
 answer_in r (list_later t room) = lent (bytes_of (read_text t (length room))) room
+answer_in r (reason job l draw) = reason_numbers (plain_reason (why (call job r) l draw))
 answer_in r (rounds_number job) = call_number (read_call (call job r)) ∷ call_found (read_call (call job r))
 answer_in r (draws_in_asked job) = draws_of (call job r)
 answer_in r (in_rounds_asked rounds question) = answer_in rounds question

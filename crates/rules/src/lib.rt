@@ -112,3 +112,57 @@ pub struct Written {
     pub detail: u32,
     pub size: u32,
 }
+
+// The event that last brought a symbol into a slot, counted from 0; or it is there from the start.
+#[derive(Clone, Copy)]
+pub enum Brought {
+    BroughtBy(u32),
+    FromTheStart,
+}
+
+// The event that last took a symbol out of a slot, counted from 0; or none did.
+#[derive(Clone, Copy)]
+pub enum TakenOut {
+    TakenBy(u32),
+    NeverTaken,
+}
+
+// The waits before a draw in three parts: while its own symbol was loading, while another was, while nothing was.
+#[derive(Clone, Copy)]
+pub struct Parts {
+    pub own: u32,
+    pub another: u32,
+    pub nothing: u32,
+}
+
+// What a run tells of a draw: what last brought its symbol, what last took it out, and the waits before the draw.
+#[derive(Clone, Copy)]
+pub struct Account {
+    pub brought: Brought,
+    pub taken: TakenOut,
+    pub waits: Parts,
+}
+
+// Why a draw waited: number 0 and the account of it, or a refusal's number and detail and the account that nothing is known of.
+#[derive(Clone, Copy)]
+pub struct Reason {
+    pub number: u32,
+    pub detail: u32,
+    pub account: Account,
+}
+
+// For a host in C, where an event would be and there is none.
+pub const NO_EVENT: u32 = 4294967295;
+
+// The same for a host in C, in numbers alone. Of a refusal the five after the detail are 0.
+#[repr(C)]
+#[derive(Clone, Copy)]
+pub struct PlainReason {
+    pub number: u32,
+    pub detail: u32,
+    pub brought: u32,
+    pub taken: u32,
+    pub own: u32,
+    pub another: u32,
+    pub nothing: u32,
+}
