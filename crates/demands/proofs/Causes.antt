@@ -84,6 +84,20 @@ loader_says job tick next x rest slots (Under left q y) begun g b =
 
 -- ---- A run along a list
 
+-- Once what begins in a tick has begun, the loader says of a wait what the whole list says: the events still to come are later.
+pub list_says : (job : Job) (events : List Event) (s : State) → HoldingBegun job events s
+    → (x : ℕ) → cause_of s.loading x ≡ cause_at job events s.tick x
+list_says job events s g x =
+    let a : AlongBegun job events s = g.0.1 in
+    let later : last_begun s.tick (drop s.loads events) ≡ none =
+    later_none s.tick (s.tick + 1) (drop s.loads events) a.to_come (omega arith) in
+    let same : last_begun s.tick (map event_of s.begun) ≡ last_begun s.tick events =
+    ap (last_begun s.tick) a.so_far
+    ∙ sym (front_decides s.tick (take s.loads events) (drop s.loads events) later)
+    ∙ ap (last_begun s.tick) (take-append-drop s.loads events) in
+    loader_says job s.tick s.next x s.rest s.slots s.loading s.begun g.0.0.0 g.0.0.1
+    ∙ ap (cause_by job.load_time s.tick x) same
+
 -- At every tick of a run along a list that is a wait, its cause is the one that the list says: the load under way at that tick brings
 -- the awaited symbol, or another, or there is none.
 pub waits_for : (job : Job) (events : List Event) → Proper job → Ruly 0 events → (t : ℕ) (s after : State) (c : Cause)
@@ -99,16 +113,7 @@ waits_for job events p ordered t s after c ran more began waits =
     let (still, g) = begun_kept job (follow events) (HoldingBetween job events) (HoldingLanded job events) (HoldingBegun job events)
     (HoldingBetween job events) moves ((follow events).asks (land s)) (land s) after refl (is_more s.rest more)
     (moves.lands s (is_more s.rest more) between) began in
-    let a : AlongBegun job events after = g.0.1 in
-    let later : last_begun after.tick (drop after.loads events) ≡ none =
-    later_none after.tick (after.tick + 1) (drop after.loads events) a.to_come (omega arith) in
-    let same : last_begun after.tick (map event_of after.begun) ≡ last_begun after.tick events =
-    ap (last_begun after.tick) a.so_far
-    ∙ sym (front_decides after.tick (take after.loads events) (drop after.loads events) later)
-    ∙ ap (last_begun after.tick) (take-append-drop after.loads events) in
-    cause_of_wait (stands (awaited after) after.slots) waits
-    ∙ loader_says job after.tick after.next (awaited after) after.rest after.slots after.loading after.begun g.0.0.0 g.0.0.1
-    ∙ ap (cause_by job.load_time after.tick (awaited after)) same
+    cause_of_wait (stands (awaited after) after.slots) waits ∙ list_says job events after g (awaited after)
   where
     cause_of_wait : (b : Bool) → cond b (Draw (place (awaited after) after.slots)) (Wait (cause_of after.loading (awaited after))) ≡ Wait c
         → c ≡ cause_of after.loading (awaited after)

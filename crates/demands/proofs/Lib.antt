@@ -32,3 +32,8 @@ pub mod TextRows
 pub mod TextFits
 pub mod TextDemands
 pub mod OneRound
+pub mod LastOf
+pub mod Accounts
+pub mod Telling
+pub mod Reasons
+pub mod AccountWords

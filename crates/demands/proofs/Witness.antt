@@ -28,7 +28,7 @@ use Rattle.demands.proofs.Pauses.{longest_is}
 use Rattle.demands.proofs.Holding.{HoldingBetween, HoldingLanded, HoldingBegun, holding_moves, holding_start, shown}
 
 -- The first tick at which a draw is looked for does not change when a later draw is made.
-from_snoc : (ticks : List ℕ) (t i : ℕ) → i ≤ length ticks → from (ticks ++ (t ∷ [])) i ≡ from ticks i
+pub from_snoc : (ticks : List ℕ) (t i : ℕ) → i ≤ length ticks → from (ticks ++ (t ∷ [])) i ≡ from ticks i
 from_snoc ticks t zero h = refl
 from_snoc ticks t (suc i) h = ap (λ (n : ℕ). n + 1) (get_or-append ticks (t ∷ []) 0 i h)
 

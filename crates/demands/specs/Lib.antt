@@ -1,5 +1,6 @@
 pub mod Held
 pub mod Causes
+pub mod Reasons
 pub mod Fair
 pub mod Table
 pub mod TwoRocks
