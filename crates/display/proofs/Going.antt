@@ -39,6 +39,31 @@ waits_missed : (hp : Happening) (x : ℕ) (slots : List ℕ) → waiting hp ≡ 
 waits_missed (Draw q) x slots e m = let z : ◌≡◌ {A = ℕ} 0 1 = cc in absurd (omega arith)
 waits_missed (Wait cause) x slots e m = m
 
+-- A run is over where its next draw number is past the last draw.
+pub rest_done : (draws rest : List ℕ) (next : ℕ) → rest ≡ drop next draws → length draws ≤ next → finished rest ≡ true
+rest_done draws rest next remain over = ap finished (remain ∙ drop_of_length-le draws over)
+
+pub rest_more : (draws rest : List ℕ) (next : ℕ) → rest ≡ drop next draws → next < length draws → finished rest ≡ false
+rest_more draws rest next remain within = ap finished (remain ∙ drop-cons draws next 0 within)
+
+-- Where no more was counted than ticks have passed, and the limit is small enough, the counters have room for a tick more.
+pub rest_room : (limit : ℕ) (d : Display) → MayRest limit d → d.loads ≤ d.tick → d.tick < limit → limit ≤ 4294967295 → d.next < 65535
+    → Room d × (d.loads < 4294967295)
+rest_room limit d may few_loads early ticks draws =
+    let few_waits : d.waits ≤ d.tick = may.waits in
+    let short_pause : d.pause ≤ d.tick = may.pause in
+    (record { tick = omega arith; next = omega arith; waits = omega arith; pause = omega arith }, omega arith)
+
+-- After a tick that is in time a stretch of waits may start as it may before the tick.
+pub tick_rests : (limit : ℕ) (d later : Display) (hp : Happening) → MayRest limit d → d.tick < limit → Counted 1 hp d later → MayRest limit later
+tick_rests limit d later hp may early counts =
+    let one_more : later.tick ≡ d.tick + 1 = counts.tick in
+    let more_waits_lem : later.waits ≤ d.waits + 1 = counts.waits in
+    let more_pause : later.pause ≤ d.pause + 1 = counts.pause in
+    let few_waits : d.waits ≤ d.tick = may.waits in
+    let short_pause : d.pause ≤ d.tick = may.pause in
+    record { in_its_time = omega arith; waits = omega arith; pause = omega arith }
+
 module _ (job : Job) (rule : Rule) (limit : ℕ) where
   -- Between two ticks of the code's run, with h beside the display.
   pub record Going (slots : List ℕ) (d : Display) (h : History) : Type 0 where
@@ -71,7 +96,7 @@ module _ (job : Job) (rule : Rule) (limit : ℕ) where
   module _ (slots : List ℕ) (d : Display) (h : History) (g : Going slots d h) where
     -- It ends where no draw remains, or where no tick is left.
     pub going_done : length job.draws ≤ d.next → finished h.rest ≡ true
-    going_done over = ap finished (g.rest ∙ drop_of_length-le job.draws over)
+    going_done over = rest_done job.draws h.rest d.next g.rest over
 
     pub going_over : length job.draws ≤ d.next → run job rule limit (start job) ≡ going (view slots h d)
     going_over over = sym g.whole ∙ run_finished job rule (limit - d.tick) (view slots h d) (going_done over)
@@ -80,18 +105,19 @@ module _ (job : Job) (rule : Rule) (limit : ℕ) where
     unfolding run
     going_late late = let none : limit - d.tick ≡ 0 = omega arith in sym g.whole ∙ rw none
 
+    -- A stretch of waits may start there.
+    pub going_may : MayRest limit d
+    going_may = record { in_its_time = g.in_its_time; waits = g.waits; pause = g.pause }
+
     -- Where the limits are small enough, the counters have room for a tick more.
     pub going_room : d.tick < limit → limit ≤ 4294967295 → length job.draws < 65535 → Room d × (d.loads < 4294967295)
     going_room early ticks draws =
-        let few_waits : d.waits ≤ d.tick = g.waits in
-        let short_pause : d.pause ≤ d.tick = g.pause in
-        let few_loads : d.loads ≤ d.tick = g.loads in
         let few_draws : d.next ≤ length job.draws = g.few in
-        (record { tick = omega arith; next = omega arith; waits = omega arith; pause = omega arith }, omega arith)
+        rest_room limit d going_may g.loads early ticks (omega arith)
 
     module _ (within : d.next < length job.draws) where
       pub going_more : finished h.rest ≡ false
-      going_more = ap finished (g.rest ∙ drop-cons job.draws d.next 0 within)
+      going_more = rest_more job.draws h.rest d.next g.rest within
 
       module _ (early : d.tick < limit) (slots' : List ℕ) (r : Ticked) (ticks : Ticks job rule slots slots' d r) where
         ticks_on : (later : Run) → leads slots' (λ t. onward d t h) r ≡ later
@@ -108,14 +134,7 @@ module _ (job : Job) (rule : Rule) (limit : ℕ) where
 
         -- A tick that was not refused may be followed by a stretch of waits.
         pub going_rests : r.number ≡ 0 → MayRest limit r.display
-        going_rests went =
-            let counts : Counted 1 r.on_record.happening d r.display = ticks.counts went in
-            let later : r.display.tick ≡ d.tick + 1 = counts.tick in
-            let more_waits_lem : r.display.waits ≤ d.waits + 1 = counts.waits in
-            let more_pause : r.display.pause ≤ d.pause + 1 = counts.pause in
-            let few_waits : d.waits ≤ d.tick = g.waits in
-            let short_pause : d.pause ≤ d.tick = g.pause in
-            record { in_its_time = omega arith; waits = omega arith; pause = omega arith }
+        going_rests went = tick_rests limit d r.display r.on_record.happening going_may early (ticks.counts went)
 
         module _ (went : r.number ≡ 0) (quiet : ℕ → Type 0) (e : Display)
             (rested : Rested quiet limit r.on_record.happening r.display e)
@@ -133,13 +152,13 @@ module _ (job : Job) (rule : Rule) (limit : ℕ) where
               ∙ ap (λ (n : ℕ). drop n job.draws) (sym counts.next)
 
           -- After a wait the draw that is awaited is the same as before it.
-          same_rest : 0 < rested.many → h'.rest ≡ h.rest
+          pub same_rest : 0 < rested.many → h'.rest ≡ h.rest
           same_rest some =
               rest'
               ∙ ap (λ (n : ℕ). drop n job.draws) (counts.next ∙ waits_there r.on_record.happening d.next (rested.after_a_wait some))
               ∙ sym g.rest
 
-          absent : 0 < rested.many → stands (get_or h'.rest 0 0) slots' ≡ false
+          pub absent : 0 < rested.many → stands (get_or h'.rest 0 0) slots' ≡ false
           absent some =
               rw (same_rest some, g.rest)
               (waits_missed r.on_record.happening (get_or (drop d.next job.draws) 0 0) slots' (rested.after_a_wait some) (ticks.waits went))

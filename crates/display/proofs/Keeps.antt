@@ -7,9 +7,9 @@ use Rattle.rules.specs.declared.MaybeLoad.{MaybeLoad}
 use Rattle.rules.specs.declared.MaybeLoad.TheVariants.{Load, NoLoad}
 use Rattle.rules.specs.declared.Happening.{Happening}
 use Rattle.rules.specs.Job.{Job}
-use Rattle.rules.specs.Display.{State}
+use Rattle.rules.specs.Display.{State, begun_by}
 use Rattle.display.specs.declared.state.Display.{Display}
-use Rattle.display.specs.View.{History, view, history_begun, begun_by, Lands}
+use Rattle.display.specs.View.{History, view, history_begun, Lands}
 use Rattle.display.specs.Tick.{Room, Counted, next_after}
 
 -- Landing changes the slots and the load under way alone.

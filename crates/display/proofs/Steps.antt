@@ -14,13 +14,14 @@ use Rattle.rules.specs.declared.TickRecord.{TickRecord}
 use Rattle.rules.specs.Basics.{stands}
 use Rattle.rules.specs.Job.{Job}
 use Rattle.rules.specs.Order.{Verdict}
-use Rattle.rules.specs.Display.{State, Run, Rule, drawn, going, refused, unless, then, begin, beginning, happening_of, happened, record_of, stuck, tick}
+use Rattle.rules.specs.Display.{State, Run, Rule, drawn, going, refused, unless, then, begin, begun_by, beginning, happening_of, happened, record_of, record_at, stuck, tick}
 use Rattle.laws.proofs.Cases.{by_test}
 use Rattle.laws.proofs.Moves.{load_clear, load_met}
 use Rattle.display.specs.declared.state.Display.{Display}
 use Rattle.display.specs.declared.tick.Ticked.{Ticked}
-use Rattle.display.specs.View.{History, view, awaiting, begun_by, history_begun, history_made, onward, Lands}
-use Rattle.display.specs.Tick.{DrawnOrWaited, Ticks, asked_refusal, leads, Missed}
+use Rattle.display.specs.View.{History, view, awaiting, history_begun, history_made, onward, Lands}
+use Rattle.display.specs.Tick.{DrawnOrWaited, Ticks, OnRecord, asked_refusal, leads, Missed}
+use Rattle.display.proofs.Ticks.{same_happening}
 use Rattle.display.proofs.Keeps.{LandKeeps, BeginKeeps, land_keeps, begin_keeps, tick_counts}
 
 -- ---- Step 2
@@ -107,6 +108,10 @@ module _ (job : Job) (rule : Rule) (slots slots₁ : List ℕ) (d l : Display)
             (beginning_halts job asked here halts ∙ ap (λ (n : ℕ). refused n l.loads) (sym (numbered h)))));
       }
 
+  pub refused_recorded : (number ≡ 0 → ⊥) → (r : Ticked) → r.number ≡ number → r.detail ≡ l.loads → OnRecord job rule slots slots₁ d r
+  refused_recorded some r same detailed =
+      record { ticks = ticks_refused some r same detailed; recorded = λ none. absurd (some (sym same ∙ none)) }
+
   module _ (none : number ≡ 0) (slots₂ : List ℕ) (b : Display)
       (begins : (h : History) → view slots₂ (history_begun l asked h) b ≡ begun_by job asked (view slots₁ h l)) where
     landed : LandKeeps d l
@@ -142,3 +147,17 @@ module _ (job : Job) (rule : Rule) (slots slots₁ : List ℕ) (d l : Display)
                 ∙ ap (λ (x : Run). then x (λ s. happened (record_of asked s).happening (rule.done s) s))
                 (beginning_goes job asked here (sym (numbered h) ∙ none)));
           }
+
+      -- What the code has on record is what the rules have.
+      same_record : (h : History) → h.rest ≡ drop d.next job.draws → r.on_record ≡ record_at job rule (view slots h d)
+      same_record h remain =
+          let next_symbol : get_or (history_begun l asked h).rest 0 0 ≡ symbol =
+          ap (λ (x : List ℕ). get_or x 0 0) (begun_rest l asked h ∙ remain) ∙ awaits in
+          settled.recorded
+          ∙ ap (λ (x : Happening). record { begun = asked; happening = x }) (sym (same_happening slots₂ b (history_begun l asked h) symbol next_symbol))
+          ∙ ap (record_of asked) (begins h)
+          ∙ ap (λ (x : MaybeLoad). record_of x (begun_by job x (view slots₁ h l))) (asks h remain)
+          ∙ ap (λ (s : State). record_of (rule.asks s) (begun_by job (rule.asks s) s)) (lands h)
+
+      pub ticks_recorded : OnRecord job rule slots slots₂ d r
+      ticks_recorded = record { ticks = ticks_went; recorded = λ went h remain. same_record h remain }

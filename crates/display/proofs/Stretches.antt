@@ -26,7 +26,7 @@ not_stuck zero q y x done goes_on = goes_on refl
 not_stuck (suc left) q y x done goes_on = by_test (eqb x y) (λ same. rw same) (λ other. rw other)
 
 -- No waits leave the display as it is.
-passed_none : (d : Display) → passed 0 d ≡ d
+pub passed_none : (d : Display) → passed 0 d ≡ d
 passed_none d =
     let ticks : d.tick + 0 ≡ d.tick = omega arith in
     let waits : d.waits + 0 ≡ d.waits = omega arith in
@@ -68,13 +68,13 @@ module _ (job : Job) (rule : Rule) where
         ap (λ (n : ℕ). run job rule n (view slots h d)) all ∙ ap (λ (e : Display). run job rule t (view slots h e)) (sym (passed_none d))
 
     module _ (more : finished h.rest ≡ false) (absent : stands (get_or h.rest 0 0) slots ≡ false) where
-      quiet_tick : (d : Display) → Quiet d → tick job rule (view slots h d) ≡ going (view slots h (passed 1 d))
+      pub quiet_tick : (d : Display) → Quiet d → tick job rule (view slots h d) ≡ going (view slots h (passed 1 d))
       quiet_tick d quiet =
           tick_waits (view slots h d) (view slots h (nearer d)) (nearer_lands slots h d quiet.far) quiet.asks absent
           (not_stuck (d.remaining - 1) d.target d.incoming (get_or h.rest 0 0) (rule.done (view slots h (nearer d)))
           (λ none. let far : d.remaining ≡ 1 → ⊥ = quiet.far in quiet.goes_on (omega arith)))
 
-      one_further : (m : ℕ) (d : Display) → view slots h (passed 1 (passed m d)) ≡ view slots h (passed (suc m) d)
+      pub one_further : (m : ℕ) (d : Display) → view slots h (passed 1 (passed m d)) ≡ view slots h (passed (suc m) d)
       one_further m d =
           let ticks : d.tick + m + 1 ≡ d.tick + suc m = omega arith in
           let waits : d.waits + m + 1 ≡ d.waits + suc m = omega arith in

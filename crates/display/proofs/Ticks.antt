@@ -19,7 +19,7 @@ use Rattle.display.specs.Moves.{moved_on, drawn_or_waited}
 use Rattle.display.specs.Tick.{DrawnOrWaited, Counted}
 
 -- What happens goes by the awaited symbol alone, whatever else is beside the display.
-same_happening : (slots : List ℕ) (d : Display) (h : History) (x : ℕ) → get_or h.rest 0 0 ≡ x
+pub same_happening : (slots : List ℕ) (d : Display) (h : History) (x : ℕ) → get_or h.rest 0 0 ≡ x
     → happening_of (view slots h d) ≡ happening_of (view slots (awaiting x) d)
 same_happening slots d h x e =
     ap

@@ -8,7 +8,7 @@ use Rattle.rules.specs.declared.Happening.TheVariants.{Draw, Wait}
 use Rattle.rules.specs.declared.TickRecord.{TickRecord}
 use Rattle.rules.specs.Basics.{stands}
 use Rattle.rules.specs.Job.{Job, most_slots}
-use Rattle.rules.specs.Display.{State, Run, Rule, going, refused, load_refusal, happening_of, happened, record_of, tick}
+use Rattle.rules.specs.Display.{State, Run, Rule, going, refused, load_refusal, happening_of, happened, record_of, record_at, tick}
 use Rattle.display.specs.declared.state.Display.{Display}
 use Rattle.display.specs.declared.tick.Ticked.{Ticked}
 use Rattle.display.specs.View.{History, view, awaiting, history_made, onward}
@@ -78,3 +78,13 @@ pub record Ticks (job : Job) (rule : Rule) (slots slots' : List ℕ) (d : Displa
   pub run : (h : History)
       → h.rest ≡ drop d.next job.draws
       → leads slots' (λ tick. onward d tick h) r ≡ tick job rule (view slots h d)
+
+-- What the code has on record of a tick that was not refused is what the rules have.
+abbrev pub Recorded : Job → Rule → List ℕ → Display → Ticked → Type 0
+Recorded job rule slots d r =
+    r.number ≡ 0 → (h : History) → h.rest ≡ drop d.next job.draws → r.on_record ≡ record_at job rule (view slots h d)
+
+-- Both of a tick.
+pub record OnRecord (job : Job) (rule : Rule) (slots slots' : List ℕ) (d : Display) (r : Ticked) : Type 0 where
+  pub ticks : Ticks job rule slots slots' d r
+  pub recorded : Recorded job rule slots d r

@@ -9,7 +9,7 @@ use Rattle.rules.specs.declared.Happening.{Happening}
 use Rattle.rules.specs.declared.Happening.TheVariants.{Draw, Wait}
 use Rattle.rules.specs.declared.TickRecord.{TickRecord}
 use Rattle.rules.specs.Job.{Job}
-use Rattle.rules.specs.Display.{State, Drawn, drawn, Loaded, loaded, land, begin}
+use Rattle.rules.specs.Display.{State, Drawn, drawn, Loaded, loaded, land, begun_by}
 use Rattle.display.specs.declared.state.Display.{Display}
 
 -- What is beside the display.
@@ -62,11 +62,6 @@ history_made d (Wait cause) h = h
 
 abbrev pub onward : Display → TickRecord → History → History
 onward d tick h = history_made d tick.happening (history_begun d tick.begun h)
-
--- The state once the load that is asked for has begun, where one is.
-abbrev pub begun_by : Job → MaybeLoad → State → State
-begun_by job NoLoad s = s
-begun_by job (Load q x) s = begin job q x s
 
 -- The two moves before the draw or the wait, from d with these slots to the display r with other slots. Both are the same whatever is
 -- beside the display; a load begins so in every job of this load time.
