@@ -1,5 +1,8 @@
 pub mod Walks
 pub mod Ends
+pub mod Accounts
+pub mod Tells
 pub mod Copies
 pub mod Answers
+pub mod Reasons
 pub mod NoSecond

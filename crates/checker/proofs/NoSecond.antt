@@ -4,6 +4,7 @@ use Rattle.laws.proofs.Same.{same}
 use Rattle.checker.specs.contracts
 use Rattle.checker.proofs.answer.check as check
 use Rattle.checker.proofs.answer.check_draws as check_draws
+use Rattle.checker.proofs.reason.why as why
 
 -- A check has one answer, and one content of each of its two buffers later.
 pub check_promise : Promise contracts.check.ended check.Reads.Asked check.Reads.Learnt
@@ -27,4 +28,12 @@ check_draws_promise =
             λ i. record { answer = same p.0 q.0 i; draws = same draws draws' i },
             λ i. (tt, (tt, (tt, (same at at' i, (same from from' i, tt))))),
           );
+    }
+
+-- Why a draw waited has one answer.
+pub why_promise : Promise contracts.why.ended why.Reads.Asked why.Reads.Learnt
+why_promise =
+    record {
+      any = λ κs given. tt;
+      one = λ κs given answer answer' left left' asked p q. (same p q, λ i. (tt, (tt, (tt, (tt, tt)))));
     }

@@ -1,1 +1,4 @@
 pub mod Follow
+pub mod Opening
+pub mod Turn
+pub mod Accounts

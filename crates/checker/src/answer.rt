@@ -7,8 +7,9 @@ ghost use Rattle.checker.specs.Follow.{HasRoom, HandedOut};
 
 use crate::checked::{Checked, refuse};
 use crate::copy::copy_draws;
+use crate::opening::{Opening, opening_of};
 use crate::run::run_list;
-use rules::{Answer, CallReading, ListReading, MOST_DRAWS, Unrolled};
+use rules::{Answer, MOST_DRAWS, Unrolled};
 
 // 7. There are fewer places than draws in the buffer for ticks or in the one for slots.
 fn short_room(draws: u16, ticks: usize, slots: usize) -> bool
@@ -54,22 +55,19 @@ pub fn check_draws(
     ensures ticks { ticks.new ≡ lent (ticks_of (checked (call job.now rounds) list.now (length ticks.old) (length slots.old))) ticks.old }
     ensures slots { slots.new ≡ lent (slots_of (checked (call job.now rounds) list.now (length ticks.old) (length slots.old))) slots.old }
 {
-    let reading = sheet::read_call(job, rounds);
-    let CallReading::Taken(shape) = reading else {
-        return refuse(sheet::call_number(reading), 0);
-    };
-    let head = sheet::read_list(list);
-    let ListReading::Listed(count) = head else {
-        return refuse(8, 0);
-    };
-    if short_room(shape.draws, ticks.len(), slots.len()) {
-        return refuse(7, 0);
+    match opening_of(job, list, rounds) {
+        Opening::Shut { number } => refuse(number, 0),
+        Opening::Open { shape, count } => {
+            if short_room(shape.draws, ticks.len(), slots.len()) {
+                return refuse(7, 0);
+            }
+            let first = sheet::first_bad_tick(list, count);
+            if first < count as u32 {
+                return refuse(9, first);
+            }
+            hand_out(job, list, shape, count, ticks, slots)
+        }
     }
-    let first = sheet::first_bad_tick(list, count);
-    if first < count as u32 {
-        return refuse(9, first);
-    }
-    hand_out(job, list, shape, count, ticks, slots)
 }
 
 // The answer to a list for this many rounds of a job. Where it is accepted, the two buffers hold the tick and the slot of each draw, and what comes after

@@ -3,7 +3,7 @@ ghost use Rattle.std.specs.Prelude.{◌≡◌, drop};
 ghost use Rattle.rules.specs.Job.{call, job_of};
 ghost use Rattle.rules.specs.LoadList.{events_in, head_size};
 ghost use Rattle.rules.specs.Refusals.{due, follow};
-ghost use Rattle.display.specs.Tick.{Ticks};
+ghost use Rattle.display.specs.Tick.{Ticks, Recorded};
 ghost use Rattle.sheet.specs.Size.{Sized};
 ghost use Rattle.checker.specs.Follow.{MayTick};
 
@@ -11,7 +11,7 @@ use display::{Display, Ticked, begin, draw_or_wait, land, load_refusal, refused_
 use rules::{EventReading, MaybeLoad, Unrolled};
 
 // What the list asks for in this tick, when this many of its loads have begun.
-fn asked_of(list: &[u8], count: u16, loads: u32, tick: u32) -> MaybeLoad
+pub fn asked_of(list: &[u8], count: u16, loads: u32, tick: u32) -> MaybeLoad
     requires { Sized count list.now }
     ensures { result ≡ due (drop loads (events_in count (drop head_size list.now))) tick }
 {
@@ -43,7 +43,8 @@ pub fn follow_tick(
     d: Display,
 ) -> Ticked
     requires { MayTick (call job.now shape.rounds) list.now shape count held.old d }
-    ensures { Ticks (job_of (call job.now shape.rounds)) (follow (events_in count (drop head_size list.now))) held.old held.new d result }
+    ensures ticks { Ticks (job_of (call job.now shape.rounds)) (follow (events_in count (drop head_size list.now))) held.old held.new d result }
+    ensures recorded { Recorded (job_of (call job.now shape.rounds)) (follow (events_in count (drop head_size list.now))) held.old d result }
 {
     let landed = land(held, d);
     let asked = asked_of(list, count, landed.loads, landed.tick);

@@ -1,39 +1,62 @@
--- The tests are walked in the order of the definition, whatever that order is.
-use Rattle.laws.proofs.Verdicts.{end, stop, step}
-use Rattle.laws.proofs.Jobs.{at_call, past_call}
-use Rattle.sheet.proofs.Lists.{at_list, past_list, is_sized, at_order, past_order}
-use Rattle.checker.proofs.Answers.{room_test_lem, refuses, hands_out, roomy}
+-- A reading or a test refuses, in the order of the definition, or the draws of the run are handed out.
+use Rattle.std.proofs.Common.{refl, length}
+use Rattle.rules.specs.Job.{call}
+use Rattle.laws.proofs.Verdicts.{gives, end, stop, step}
+use Rattle.sheet.proofs.Lists.{at_order, past_order}
+use Rattle.checker.proofs.Answers.{room_test_lem, past_both, refuses, hands_out, roomy}
 use Rattle.checker.proofs.answer.check_draws.Goals as goal
 
-ruleset walk = (at_call, past_call, at_list, past_list, stop, step, end, room_test_lem, at_order, past_order, is_sized, roomy)
-
-pub returns-in_default : goal.returns-in_default
-returns-in_default c =
-    let (answer, (draws, (ticks, slots))) = refuses _ _ _ _ _ c.call_number.result 0 c.refuse.ensures (search walk depth 20 fits 4000) in
-    record { answer = answer; draws = draws; ticks = ticks; slots = slots }
-
-pub returns-in_default-head : goal.returns-in_default-head
-returns-in_default-head c =
-    let (answer, (draws, (ticks, slots))) = refuses _ _ _ _ _ 8 0 c.refuse-in_default-head.ensures (search walk depth 20 fits 4000) in
+pub returns-in-Shut : goal.returns-in-Shut
+returns-in-Shut c =
+    let (answer, (draws, (ticks, slots))) =
+    refuses _ _ _ _ _ c.in-Shut.number 0 c.refuse.ensures (c.in-Shut.ensures (length c.args.ticks.now) (length c.args.slots.now)) in
     record { answer = answer; draws = draws; ticks = ticks; slots = slots }
 
 pub returns-then-short_room : goal.returns-then-short_room
 returns-then-short_room c =
-    let (answer, (draws, (ticks, slots))) = refuses _ _ _ _ _ 7 0 c.refuse-then-short_room.ensures (search walk depth 20 fits 4000) in
+    let a = c.args in
+    let asked = call a.job.now a.rounds in
+    let (taken, read) = c.in-Open.ensures in
+    let (answer, (draws, (ticks, slots))) =
+    refuses _ _ _ _ _ 7 0 c.refuse-then-short_room.ensures
+    (gives _ _
+    (past_both asked a.list.now c.in-Open.shape c.in-Open.count taken read
+    (stop c.short_room.result
+    (room_test_lem asked _ c.in-Open.shape (length a.ticks.now) (length a.slots.now) c.short_room.result refl taken c.short_room.ensures)
+    c.if-short_room.true))) in
     record { answer = answer; draws = draws; ticks = ticks; slots = slots }
 
 pub returns-then-first-count : goal.returns-then-first-count
 returns-then-first-count c =
+    let a = c.args in
+    let asked = call a.job.now a.rounds in
+    let (taken, read) = c.in-Open.ensures in
     let (answer, (draws, (ticks, slots))) =
-    refuses _ _ _ _ _ 9 c.first_bad_tick-first.result c.refuse-then-first-count.ensures (search walk depth 20 fits 4000) in
+    refuses _ _ _ _ _ 9 c.first_bad_tick-first.result c.refuse-then-first-count.ensures
+    (gives _ _
+    (past_both asked a.list.now c.in-Open.shape c.in-Open.count taken read
+    (step c.short_room.result
+    (room_test_lem asked _ c.in-Open.shape (length a.ticks.now) (length a.slots.now) c.short_room.result refl taken c.short_room.ensures)
+    c.if-short_room.false
+    (at_order a.list.now _ c.in-Open.count c.first_bad_tick-first.result refl read c.first_bad_tick-first.ensures c.if-first-count.true)))) in
     record { answer = answer; draws = draws; ticks = ticks; slots = slots }
 
 pub hand_out-requires : goal.hand_out-requires
-hand_out-requires c = search walk depth 20 fits 4000
+hand_out-requires c =
+    let (taken, read) = c.in-Open.ensures in
+    roomy (call c.args.job.now c.args.rounds) c.args.list.now _ _ _ _ c.short_room.result taken read c.short_room.ensures c.if-short_room.false
 
-pub returns : goal.returns
-returns c =
+pub returns-else-first-count : goal.returns-else-first-count
+returns-else-first-count c =
+    let a = c.args in
+    let asked = call a.job.now a.rounds in
+    let (taken, read) = c.in-Open.ensures in
     let (answer, (draws, (ticks, slots))) =
-    hands_out _ _ _ _ _ c.read_call-reading.result c.read_list-head.result _ _ _ _ c.read_call-reading.ensures c.in-Taken.is
-    c.read_list-head.ensures c.in-Listed.is c.hand_out.ensures (search walk depth 20 fits 4000) in
+    hands_out _ _ _ _ _ c.in-Open.shape c.in-Open.count _ _ taken read c.hand_out.ensures
+    (gives _ _
+    (past_both asked a.list.now c.in-Open.shape c.in-Open.count taken read
+    (step c.short_room.result
+    (room_test_lem asked _ c.in-Open.shape (length a.ticks.now) (length a.slots.now) c.short_room.result refl taken c.short_room.ensures)
+    c.if-short_room.false
+    (past_order a.list.now _ c.in-Open.count c.first_bad_tick-first.result refl read c.first_bad_tick-first.ensures c.if-first-count.false end)))) in
     record { answer = answer; draws = draws; ticks = ticks; slots = slots }

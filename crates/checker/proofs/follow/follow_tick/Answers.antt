@@ -1,4 +1,4 @@
--- The three steps are a tick along the list: one that is refused, or one that goes on.
+-- The three steps are a tick along the list: one that is refused, or one that goes on and has on record what the rules have.
 use Rattle.std.proofs.Common.{ℕ, ◌≡◌, sym, ap, ◌∙◌, length, drop}
 use lib.Dec.{leb}
 use Rattle.rules.specs.declared.Unrolled.{Unrolled}
@@ -11,7 +11,7 @@ use Rattle.display.proofs.Keeps.{land_keeps}
 use Rattle.display.proofs.Landed.{landed_awaits}
 use Rattle.display.proofs.Views.{lands_so, begins_so}
 use Rattle.display.proofs.Ticks.{steps_so}
-use Rattle.display.proofs.Steps.{ticks_refused, ticks_went}
+use Rattle.display.proofs.Steps.{refused_recorded, ticks_recorded}
 use Rattle.checker.proofs.follow.follow_tick.Goals as goal
 
 pub returns-then-number-ne0 : goal.returns-then-number-ne0
@@ -25,9 +25,11 @@ returns-then-number-ne0 c =
     let limits = c.requires.read.limits in
     let lands = lands_so held held₁ a.d l c.land-landed.ensures.display c.land-landed.ensures.slots in
     let size : job.slots ≡ length held₁ = sym (c.land-landed.auto.slots ∙ c.requires.all_slots ∙ ap (λ (s : Unrolled). s.slots) limits.shaped) in
-    ticks_refused job rule held held₁ a.d l lands c.asked_of-asked.result (λ h remain. c.asked_of-asked.ensures) c.load_refusal-number.result
+    let both =
+    refused_recorded job rule held held₁ a.d l lands c.asked_of-asked.result (λ h remain. c.asked_of-asked.ensures) c.load_refusal-number.result
     (λ h. c.load_refusal-number.ensures h job size) c.if-number-ne0.true c.refused_load.result
-    (ap (λ (t : Ticked). t.number) c.refused_load.ensures) (ap (λ (t : Ticked). t.detail) c.refused_load.ensures)
+    (ap (λ (t : Ticked). t.number) c.refused_load.ensures) (ap (λ (t : Ticked). t.detail) c.refused_load.ensures) in
+    record { ticks = both.ticks; recorded = both.recorded }
 
 pub returns : goal.returns
 returns c =
@@ -45,8 +47,10 @@ returns c =
     c.begin-begun.ensures.display c.begin-begun.ensures.slots in
     let time = sym (ap (λ (s : Unrolled). s.load_time) limits.shaped) in
     let awaits = landed_awaits c.draw_symbol-symbol.result limits (land_keeps held held₁ a.d l lands) c.requires.remains c.draw_symbol-symbol.ensures in
-    ticks_went job rule held held₁ a.d l lands c.asked_of-asked.result (λ h remain. c.asked_of-asked.ensures) c.load_refusal-number.result
+    let both =
+    ticks_recorded job rule held held₁ a.d l lands c.asked_of-asked.result (λ h remain. c.asked_of-asked.ensures) c.load_refusal-number.result
     (λ h. c.load_refusal-number.ensures h job size) c.if-number-ne0.false c.begin-begun.new.slots c.begin-begun.result
     (λ h. begins h job time) c.draw_symbol-symbol.result awaits (leb a.count l.loads)
     (λ h. ap (λ (n : ℕ). leb n l.loads) (length-events_in a.count (drop head_size a.list.now))) c.draw_or_wait.result
-    (steps_so _ _ _ _ _ _ c.draw_or_wait.ensures)
+    (steps_so _ _ _ _ _ _ c.draw_or_wait.ensures) in
+    record { ticks = both.ticks; recorded = both.recorded }

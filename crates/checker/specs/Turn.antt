@@ -1,0 +1,53 @@
+-- A turn of the run along a list: what it asks for, and what it comes to.
+use Rattle.std.specs.Prelude.{ℕ, ◌-◌, ◌≤◌, ◌<◌, ◌≡◌, true, List, map, length, take, drop}
+use Rattle.rules.specs.declared.TickRecord.{TickRecord}
+use Rattle.rules.specs.declared.Unrolled.{Unrolled}
+use Rattle.rules.specs.Job.{Job, Call, job_of}
+use Rattle.rules.specs.LoadList.{Event}
+use Rattle.rules.specs.Display.{State, Run, going, then, finished, run}
+use Rattle.rules.specs.Refusals.{closing, follow, most_ticks, tick_of, slot_of}
+use Rattle.display.specs.View.{History, view}
+use Rattle.display.specs.Tick.{OnRecord}
+use Rattle.display.specs.Still.{MayRest, Rested}
+use Rattle.display.specs.declared.state.Display.{Display}
+use Rattle.checker.specs.declared.checked.Checked.{Checked}
+use Rattle.checker.specs.declared.run.Turn.{Turn}
+use Rattle.checker.specs.declared.run.Turn.TheVariants.{Over, On}
+use Rattle.checker.specs.Follow.{BothRead, NothingDue, Noted}
+
+-- What a turn asks for: job and list, all slots of the display, and a display that has counted no more than ticks have passed.
+pub record MayTurn (asked : Call) (list : List ℕ) (shape : Unrolled) (count : ℕ) (held : List ℕ) (d : Display) : Type 0 where
+  pub read : BothRead asked list shape count
+  pub all_slots : length held ≡ shape.slots
+  pub rests : MayRest (most_ticks (job_of asked)) d
+  pub loads : d.loads ≤ d.tick
+
+-- A run over n draws that ended with h beside the display: its answer and its draws noted; and an accepted one came to an end with every draw
+-- made.
+pub record Closes (n : ℕ) (run : Run) (h : History) (r : Checked) (ticks slots : List ℕ) : Type 0 where
+  pub notes : Noted n run r ticks slots
+  pub goes : r.answer.number ≡ 0 → (s : State) × (run ≡ going s)
+  pub done : r.answer.number ≡ 0 → finished h.rest ≡ true
+
+-- The run ends at this display, whatever was drawn and loaded before, where the draws made so far are noted at the front of two rows.
+abbrev pub EndsAt : Job → List Event → List ℕ → Display → Checked → Type 0
+EndsAt job events held d r =
+    (h : History) (ticks slots : List ℕ)
+    → h.rest ≡ drop d.next job.draws
+    → d.next ≤ length job.draws
+    → map tick_of h.made ≡ take d.next ticks
+    → map slot_of h.made ≡ take d.next slots
+    → Closes (length job.draws) (then (run job (follow events) (most_ticks job - d.tick) (view held h d)) (closing events)) h r ticks slots
+
+-- It goes on: a draw remains and the run is in time; the tick leads to the display `ticked`, and the waits after it to `later`.
+pub record GoesOn (job : Job) (events : List Event) (held held' : List ℕ) (d : Display) (on : TickRecord) (later : Display) : Type 0 where
+  pub within : d.next < length job.draws
+  pub early : d.tick < most_ticks job
+  pub detail : ℕ
+  pub ticked : Display
+  pub on_record : OnRecord job (follow events) held held' d (record { number = 0; detail = detail; on_record = on; display = ticked })
+  pub rested : Rested (NothingDue events ticked) (most_ticks job) on.happening ticked later
+
+abbrev pub Turned : Job → List Event → List ℕ → List ℕ → Display → Turn → Type 0
+Turned job events held held' d (Over r) = EndsAt job events held d r
+Turned job events held held' d (On on later) = GoesOn job events held held' d on later

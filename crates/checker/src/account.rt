@@ -1,0 +1,173 @@
+// The account of a draw: what a turn of the run adds to it.
+ghost use Rattle.std.specs.Prelude.{◌≡◌, cond, ◌&&◌, eqb, ◌-◌, drop};
+ghost use Rattle.rules.specs.LoadList.{events_in, head_size};
+ghost use Rattle.rules.specs.Refusals.{due};
+ghost use Rattle.rules.specs.Why.{untold, brought_in, more_waits, waits_in};
+ghost use Rattle.display.specs.View.{loading_of};
+ghost use Rattle.display.specs.Moves.{landed_in};
+ghost use Rattle.sheet.specs.Size.{Sized};
+ghost use Rattle.checker.specs.Accounts.{going_out, taken_of, turn_told, Countable, MayTell};
+
+use crate::follow::asked_of;
+use display::Display;
+use rules::{Account, Brought, Cause, FREE, Happening, MaybeLoad, Parts, TakenOut, TickRecord};
+
+// Before the first tick nothing is told.
+pub fn untold() -> Account
+    ensures { result ≡ untold }
+{
+    Account {
+        brought: Brought::FromTheStart,
+        taken: TakenOut::NeverTaken,
+        waits: Parts {
+            own: 0,
+            another: 0,
+            nothing: 0,
+        },
+    }
+}
+
+// A load ends in the tick that comes, and this is its slot.
+fn ends_in(d: Display, slot: u8) -> bool
+    ensures { result ≡ (eqb d.remaining 1 && eqb d.target slot) }
+{
+    if d.remaining != 1 {
+        return false;
+    }
+    d.target == slot as u16
+}
+
+// What the load that is asked for takes out: what its slot holds once a load that ends in this tick is in its slot. Past the last slot
+// it is 0, as every read past an end is in the rules; such a load is refused.
+fn taken_by(held: &[u16], d: Display, asked: MaybeLoad) -> u16
+    ensures { result ≡ going_out asked (landed_in d held.now) }
+{
+    let MaybeLoad::Load { slot, symbol: _ } = asked else {
+        return FREE;
+    };
+    let at = slot as usize;
+    if held.len() <= at {
+        return 0;
+    }
+    if ends_in(d, slot) {
+        return d.incoming;
+    }
+    held[at]
+}
+
+// The same of the load that the list asks for in this tick.
+pub fn going_out(list: &[u8], count: u16, held: &[u16], d: Display) -> u16
+    requires { Sized count list.now }
+    ensures { result ≡ going_out (due (drop d.loads (events_in count (drop head_size list.now))) d.tick) (landed_in d held.now) }
+{
+    taken_by(held, d, asked_of(list, count, d.loads, d.tick))
+}
+
+// The event begun last, where this many have begun.
+fn last_event(loads: u32) -> u32
+    ensures { result ≡ loads - 1 }
+{
+    if loads == 0 { 0 } else { loads - 1 }
+}
+
+// A load of the symbol that ends in the tick that comes has brought it.
+fn brought_in(earlier: Brought, d: Display, symbol: u16) -> Brought
+    ensures { result ≡ brought_in symbol (loading_of d.remaining d.target d.incoming) d.loads earlier }
+{
+    if d.remaining == 1 {
+        if d.incoming == symbol {
+            return Brought::BroughtBy(last_event(d.loads));
+        }
+    }
+    earlier
+}
+
+// The event that began took the symbol out where that is what its slot held.
+fn taken_in(earlier: TakenOut, begun: MaybeLoad, out: u16, loads: u32, symbol: u16) -> TakenOut
+    ensures { result ≡ taken_of symbol begun out loads earlier }
+{
+    match begun {
+        MaybeLoad::Load { slot: _, symbol: _ } => {
+            if out == symbol {
+                return TakenOut::TakenBy(loads);
+            }
+            earlier
+        }
+        MaybeLoad::NoLoad => earlier,
+    }
+}
+
+// This many waits of one cause.
+fn more_waits(waits: Parts, cause: Cause, ticks: u32) -> Parts
+    requires { Countable ticks waits }
+    ensures { result ≡ more_waits ticks cause waits }
+{
+    match cause {
+        Cause::Awaited => Parts {
+            own: waits.own + ticks,
+            another: waits.another,
+            nothing: waits.nothing,
+        },
+        Cause::Another => Parts {
+            own: waits.own,
+            another: waits.another + ticks,
+            nothing: waits.nothing,
+        },
+        Cause::Nothing => Parts {
+            own: waits.own,
+            another: waits.another,
+            nothing: waits.nothing + ticks,
+        },
+    }
+}
+
+// The waits of a turn of this many ticks: all of one cause, or none where it draws.
+fn waits_in(waits: Parts, happening: Happening, ticks: u32) -> Parts
+    requires { Countable ticks waits }
+    ensures { result ≡ waits_in ticks happening waits }
+{
+    match happening {
+        Happening::Draw { slot: _ } => waits,
+        Happening::Wait(cause) => more_waits(waits, cause, ticks),
+    }
+}
+
+// The waits count only while the draw that is asked about is the next one.
+fn waits_for(waits: Parts, awaits: bool, happening: Happening, ticks: u32) -> Parts
+    requires { Countable ticks waits }
+    ensures { result ≡ cond awaits (waits_in ticks happening waits) waits }
+{
+    if awaits {
+        return waits_in(waits, happening, ticks);
+    }
+    waits
+}
+
+// The account after a turn from this display on, in which `out` is what the load that began in it took out, and which lasted until the
+// tick `later`.
+pub fn turn_told(
+    account: Account,
+    draw: u32,
+    symbol: u16,
+    d: Display,
+    out: u16,
+    on_record: TickRecord,
+    later: u32,
+) -> Account
+    requires { MayTell d.tick later account }
+    ensures { result ≡ turn_told draw symbol d out on_record (later - d.tick) account }
+{
+    let earlier = account.brought;
+    let brought = brought_in(earlier, d, symbol);
+    let begun = on_record.begun;
+    let gone = account.taken;
+    let taken = taken_in(gone, begun, out, d.loads, symbol);
+    let happening = on_record.happening;
+    let awaits = d.next as u32 == draw;
+    let waits = waits_for(account.waits, awaits, happening, later - d.tick);
+    Account {
+        brought,
+        taken,
+        waits,
+    }
+}
