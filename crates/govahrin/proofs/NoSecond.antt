@@ -4,6 +4,7 @@ use Rattle.laws.proofs.Same.{same}
 use Rattle.govahrin.specs.contracts
 use Rattle.govahrin.proofs.govahrin_plan as govahrin_plan
 use Rattle.govahrin.proofs.govahrin_check as govahrin_check
+use Rattle.govahrin.proofs.govahrin_why as govahrin_why
 use Rattle.govahrin.proofs.govahrin_write_text as govahrin_write_text
 use Rattle.govahrin.proofs.govahrin_read_text as govahrin_read_text
 
@@ -24,6 +25,14 @@ govahrin_check_promise =
           let (at, from) = p.1 in
           let (at', from') = q.1 in
           (same p.0 q.0, λ i. (tt, (tt, (tt, (same at at' i, (same from from' i, tt))))));
+    }
+
+-- Why a draw waited has one answer.
+pub govahrin_why_promise : Promise contracts.govahrin_why.ended govahrin_why.Reads.Asked govahrin_why.Reads.Learnt
+govahrin_why_promise =
+    record {
+      any = λ κs given. tt;
+      one = λ κs given answer answer' left left' asked p q. (same p q, λ i. (tt, (tt, (tt, (tt, tt)))));
     }
 
 -- The writer has one answer and one content of the text later, and the reader one of each for its list.

@@ -1,18 +1,21 @@
-// The C surface: plan, check, and a list as text, over byte slices and plain numbers. Crates use it from here, and a C host links the
-// archive that crates/govahrin_c makes of it; `extern "C"` holds every type to what may cross. Here the tick of a draw is four big-endian
+// The C surface: plan, check, why a draw waited, and a list as text, over byte slices and plain numbers. Crates use it from here, and a C host
+// links the archive that crates/govahrin_c makes of it; `extern "C"` holds every type to what may cross. Here the tick of a draw is four big-endian
 // bytes; all else is as in the crates below. No function asks anything of its caller.
 #![tactic(auto)]
 
+mod plain;
 mod ticks;
 
 ghost use Rattle.std.specs.Prelude.{◌≡◌, ◌≤◌, length};
 ghost use Rattle.rules.specs.Job.{call};
 ghost use Rattle.govahrin.specs.Reports.{Reports};
+ghost use Rattle.rules.specs.Why.{why, plain_reason};
 ghost use Rattle.rules.specs.Text.{write_text, read_text, written_of, bytes_of};
 ghost use Rattle.rules.specs.Refusals.{checked, checked_for_c, planned, answer_of, ticks_of, slots_of, tick_bytes, written_by, lent};
 
 use checker::Checked;
-use rules::{Answer, MOST_DRAWS, Written};
+use plain::plain_reason;
+use rules::{Answer, MOST_DRAWS, PlainReason, Written};
 use ticks::{put_ticks, tick_places};
 
 // The plan of this many rounds of a job, its list written into the room.
@@ -57,6 +60,14 @@ pub extern "C" fn govahrin_check(
     let checked = check_in(job, list, rounds, &mut row, places, slots);
     put_ticks(ticks, &row, checked.draws);
     checked.answer
+}
+
+// Why a draw of a list for this many rounds of a job waited. No room is lent.
+#[unsafe(no_mangle)]
+pub extern "C" fn govahrin_why(job: &[u8], list: &[u8], draw: u32, rounds: u32) -> PlainReason
+    ensures { result ≡ plain_reason (why (call job.now rounds) list.now draw) }
+{
+    plain_reason(checker::why(job, list, draw, rounds))
 }
 
 // The text of a load list, written into the lent room.
