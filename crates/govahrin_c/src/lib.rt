@@ -4,10 +4,11 @@
 
 ghost use Rattle.std.specs.Prelude.{◌≡◌, length};
 ghost use Rattle.rules.specs.Job.{call};
+ghost use Rattle.rules.specs.Why.{why, plain_reason};
 ghost use Rattle.rules.specs.Text.{write_text, read_text, written_of, bytes_of};
 ghost use Rattle.rules.specs.Refusals.{checked_for_c, planned, answer_of, ticks_of, slots_of, tick_bytes, written_by, lent};
 
-use rules::{Answer, Written};
+use rules::{Answer, PlainReason, Written};
 
 // The plan of this many rounds of a job, its list written into the room.
 #[unsafe(no_mangle)]
@@ -32,6 +33,14 @@ pub extern "C" fn govahrin_check(
     ensures slots { slots.new ≡ lent (slots_of (checked_for_c (call job.now rounds) list.now (length ticks.old) (length slots.old))) slots.old }
 {
     govahrin::govahrin_check(job, list, rounds, ticks, slots)
+}
+
+// Why a draw of a list for this many rounds of a job waited. No room is lent.
+#[unsafe(no_mangle)]
+pub extern "C" fn govahrin_why(job: &[u8], list: &[u8], draw: u32, rounds: u32) -> PlainReason
+    ensures { result ≡ plain_reason (why (call job.now rounds) list.now draw) }
+{
+    govahrin::govahrin_why(job, list, draw, rounds)
 }
 
 // The text of a load list, written into the lent room.
