@@ -35,7 +35,7 @@ fn say_whole<W: Write>(to: &mut W, number: u32) -> io::Result<()> {
     }
 }
 
-// Refusals 8 to 17, of a list, a run, a text or the number of rounds.
+// Refusals 8 to 18, of a list, a run, a text, the number of rounds or the number of a draw.
 fn say_run<W: Write>(to: &mut W, number: u32, detail: u32) -> io::Result<()> {
     match number {
         8 => say(
@@ -77,6 +77,10 @@ fn say_run<W: Write>(to: &mut W, number: u32, detail: u32) -> io::Result<()> {
         17 => say(
             to,
             b"the number of rounds is 0, or all rounds together have more than 4,096 draws\n",
+        ),
+        18 => say(
+            to,
+            b"the draw number is not below the number of draws in all rounds\n",
         ),
         _ => say(to, b"the plan would take more than 8,388,607 ticks\n"),
     }
