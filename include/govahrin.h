@@ -1,5 +1,5 @@
-/* Govahrin for C and C++: plan the symbol loads of a bridge display, check a load list before a display trusts it, and
-   write and read a load list as text.
+/* Govahrin for C and C++: plan the symbol loads of a bridge display, check a load list before a display trusts it, tell
+   why a draw waited, and write and read a load list as text.
    This header is the manual; `man 3 govahrin` has the calls in short.
 
    A display holds chart symbols in k slots. Any other symbol comes off a slow card and takes F ticks to load into a
@@ -41,15 +41,17 @@
        2 1 3
        7 1 2
 
-   ROUNDS. On a rolling display the sheet is drawn again from its first symbol. A plan and a check are asked for a number
-   of rounds r: the draws are the n draws of the job r times over, and one load list covers them all. There is at least
-   one round, and at most 4,096 draws in all of them, r * n; a job with no draws may be drawn any number of times. Draws
-   count from 0 through the rounds: draw n is the first of the second round. Ticks go on from round to round, and the
-   slots hold what they held. A symbol that is drawn again in a later round has its next draw there.
+   ROUNDS. On a rolling display the sheet is drawn again from its first symbol. A plan, a check and the question why a
+   draw waited are asked for a number of rounds r: the draws are the n draws of the job r times over, and one load list
+   covers them all. There is at least one round, and at most 4,096 draws in all of them, r * n; a job with no draws may be
+   drawn any number of times. Draws count from 0 through the rounds: draw n is the first of the second round. Ticks go on
+   from round to round, and the slots hold what they held. A symbol that is drawn again in a later round has its next draw
+   there.
 
    ONE TICK, while draws remain. First a load begun F ticks ago puts its symbol into its slot. Then, if the next event
    has this tick, its load begins: what the slot held is gone at once. Then, if some slot holds the next draw's symbol,
-   it is drawn from there; if not, this tick is a wait.
+   it is drawn from there; if not, this tick is a wait. A wait has one of three causes: the symbol that is waited for is
+   being loaded, another one is, or nothing is. A load that begins in the tick counts.
 
    AN EXAMPLE. Two slots with symbols 1 and 2, load time 4, draws 1 2 3 1, once. It prints `8 ticks, 4 of them waits`.
 
@@ -69,18 +71,21 @@
            return 0;
        }
 
-   examples/host.c is a whole host: it plans two rounds, checks, and steps a display tick by tick.
+   examples/host.c is a whole host: it plans two rounds, checks, and steps a display tick by tick. examples/why.c tells
+   why the draws of such a list waited.
 
    MEMORY. The library has no state, allocates nothing and keeps no pointer. It asks nothing of the bytes that it is
    lent: any content, any alignment, any length, and a null pointer where the length is 0. Three things it cannot see,
    and there it trusts its caller:
    - a length is no more than the memory at its pointer: the library believes it, and reads or writes that far;
    - memory that a call may write overlaps nothing else that the call is given;
-   - the stack has room for the call: GOVAHRIN_PLAN_STACK, GOVAHRIN_CHECK_STACK or GOVAHRIN_TEXT_STACK bytes.
+   - the stack has room for the call: GOVAHRIN_PLAN_STACK, GOVAHRIN_CHECK_STACK, GOVAHRIN_WHY_STACK or
+     GOVAHRIN_TEXT_STACK bytes.
+   To tell why a draw waited nothing is lent but the job and the list, which are only read; they may overlap.
    Measured, and not promised: where memory overlaps, the answer of a plan, of a check and of a text that is read is still
    right, and one result lies over the other; a text that is written over its own list need not be the text of that list.
    Where the stack is too small, a system that guards its end stops the process, and there is no answer.
-   A govahrin_answer and a govahrin_written are returned by value and are aligned as uint32_t is.
+   A govahrin_answer, a govahrin_reason and a govahrin_written are returned by value and are aligned as uint32_t is.
 
    THREADS. Any number of threads may call at once, each with its own lent memory. A call blocks on nothing and calls
    nothing of the host's but memcpy and memset.
@@ -115,6 +120,26 @@ typedef struct {
     uint32_t longest; /* the longest single wait: the most waits between a draw and the draw before it, or the start */
 } govahrin_answer;
 
+/* What is told of one draw of an accepted list. Accepted: number 0, detail 0 and the five numbers. Refused: the refusal's
+   number and detail, and the five numbers 0. The three parts add to the waits between the draw before this one, or the
+   start, and this draw. */
+typedef struct {
+    uint32_t number;  /* 0, or why the call was refused: see the refusals below */
+    uint32_t detail;  /* the event or the draw that a refusal names, counted from 0 and through the rounds; else 0 */
+    uint32_t brought; /* the event that last brought the draw's symbol into a slot before the draw, counted from 0; or
+                         GOVAHRIN_FROM_THE_START: it was in a slot from the start */
+    uint32_t taken;   /* the event that last took the symbol out of a slot before the draw, over all draws before it; or
+                         GOVAHRIN_NEVER_TAKEN */
+    uint32_t own;     /* waits while the draw's own symbol was loading */
+    uint32_t another; /* waits while another symbol was loading */
+    uint32_t nothing; /* waits while nothing was loading */
+} govahrin_reason;
+
+/* What stands in a govahrin_reason where there is no event: no event brought the symbol, and no event took it out. Both
+   are greater than any event's number. */
+#define GOVAHRIN_FROM_THE_START 4294967295u
+#define GOVAHRIN_NEVER_TAKEN 4294967295u
+
 /* What the writer and the reader of texts answer. Accepted: number 0, detail 0 and the bytes written. Refused: the
    refusal's number and detail, size 0, and every lent byte as it was before the call. */
 typedef struct {
@@ -124,8 +149,8 @@ typedef struct {
 } govahrin_written;
 
 /* The refusals. The first that applies is given: for a plan in the order 1 to 5, 17, 6, 7, 15; for a check 1 to 5, 17, 8,
-   7, 9, then 10 to 14 as time meets them, and 10, 11, 12 for one event; for the writer of a text 8, 9, 7; for the reader
-   16, 9, 7. Detail is 0 unless said otherwise. */
+   7, 9, then 10 to 14 as time meets them, and 10, 11, 12 for one event; for why a draw waited all of a check but 7, then
+   18; for the writer of a text 8, 9, 7; for the reader 16, 9, 7. Detail is 0 unless said otherwise. */
 enum {
     GOVAHRIN_ACCEPTED = 0,
     GOVAHRIN_JOB_LENGTH = 1,     /* the job has under 10 bytes, or its length is not the count of the bytes after it */
@@ -145,7 +170,8 @@ enum {
     GOVAHRIN_PLAN_TOO_LONG = 15, /* a plan's elapsed would pass 8,388,607; no job within the limits is so long */
     GOVAHRIN_TEXT_LINE = 16,     /* a line is outside the shape, its slot over 255 or its symbol over 65535, or it is the
                                     4,097th; detail: the first such line */
-    GOVAHRIN_ROUNDS_NUMBER = 17  /* the number of rounds is 0, or all rounds together, r * n, have more than 4,096 draws */
+    GOVAHRIN_ROUNDS_NUMBER = 17, /* the number of rounds is 0, or all rounds together, r * n, have more than 4,096 draws */
+    GOVAHRIN_DRAW_NUMBER = 18    /* the draw number is not below the number of draws in all rounds, r * n */
 };
 
 /* A refusal's number in words, a line without its end. Where they say "an event", "a draw" or "a line", detail is which
@@ -172,6 +198,7 @@ static inline const char *govahrin_words(uint32_t number)
         ("a line is not tick, slot and symbol in decimal with one blank between and a line feed, "
          "or its slot is over 255, its symbol over 65535, or it is one line too many"),
         "the number of rounds is 0, or all rounds together have more than 4,096 draws",
+        "the draw number is not below the number of draws in all rounds",
     };
     return number < sizeof words / sizeof words[0] ? words[number] : "no refusal has this number";
 }
@@ -204,11 +231,12 @@ enum {
 #define GOVAHRIN_LAST_TICK 8388607
 #define GOVAHRIN_FREE 65535
 
-/* The most stack that a plan, a check, and the writer or the reader of a text take in the x86-64 archive, in bytes: upper
-   bounds, measured by tests/stack_run on the largest inputs. They include some 3,000 bytes for a dynamic loader that
-   looks up memset or memcpy during the call. */
+/* The most stack that a plan, a check, the question why a draw waited, and the writer or the reader of a text take in the
+   x86-64 archive, in bytes: upper bounds, measured by tests/stack_run on the largest inputs. They include some 3,000
+   bytes for a dynamic loader that looks up memset or memcpy during the call. */
 #define GOVAHRIN_PLAN_STACK 54272
 #define GOVAHRIN_CHECK_STACK 41984
+#define GOVAHRIN_WHY_STACK 5120
 #define GOVAHRIN_TEXT_STACK 32768
 
 /* Plans some rounds of a job by one of the four plans.
@@ -233,6 +261,21 @@ govahrin_answer govahrin_plan(const uint8_t *job, size_t job_len, uint32_t plan,
    a byte each; the bytes after them are as they were. Refusals 1 to 5, 7 to 14 and 17. */
 govahrin_answer govahrin_check(const uint8_t *job, size_t job_len, const uint8_t *list, size_t list_len,
                                uint32_t rounds, uint8_t *ticks, size_t ticks_len, uint8_t *slots, size_t slots_len);
+
+/* Tells why a draw waited: which event brought its symbol, which took it out before, and what was loading meanwhile.
+   job, job_len    the job's bytes; only read
+   list, list_len  the list's bytes; only read
+   draw            the draw, counted from 0 and through the rounds, so below r * n
+   rounds          how often the sheet is drawn, r; as in the check of the list
+   Accepted: the list is one that a check accepts, and the answer tells of the draw. An event whose load ends in the
+   draw's own tick has brought its symbol before the draw. A draw that did not wait has three parts of 0, and its events
+   all the same. No room is lent. Refusals 1 to 5, 8 to 14 and 17, also where what is wrong comes after the draw, then 18.
+   After a plan into room:
+
+       govahrin_reason w = govahrin_why(job, job_len, room, GOVAHRIN_LIST_SIZE(a.loads), draw, rounds);
+       if (w.number == 0 && w.brought != GOVAHRIN_FROM_THE_START) printf("event %u brought it\n", (unsigned)w.brought); */
+govahrin_reason govahrin_why(const uint8_t *job, size_t job_len, const uint8_t *list, size_t list_len, uint32_t draw,
+                             uint32_t rounds);
 
 /* Writes a load list as text.
    list, list_len  the list's bytes; only read

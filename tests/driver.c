@@ -1,7 +1,8 @@
 /* Calls the library as a host would, case by case: cases in the form of tests/vectors on standard input, the same lines
    with the library's answers on standard output. All memory is lent between guard bytes, and each byte is looked at
    after the call: a refusal leaves all of them as they were, an accepted call writes the first places alone. A line ends
-   with MEMORY and a reason where that is not so, and with BACK where a list and its text are not made of each other. */
+   with MEMORY and a reason where that is not so, and with BACK where a list and its text are not made of each other.
+   Where it is asked why a draw waited, nothing is lent to be written, and no byte may change. */
 #include "govahrin.h"
 #include <stdio.h>
 #include <stdlib.h>
@@ -135,6 +136,30 @@ static void run_check(uint32_t rounds, size_t tick_places, size_t slot_places, u
     look_at(&job, 0), look_at(&list, 0), look_at(&ticks, GOVAHRIN_TICKS_ROOM(n)), look_at(&slots, n);
 }
 
+/* An event, or the word for none. Of a refusal both events are 0, which is printed as `-`; any other number is printed, so that
+   it is seen. */
+static void print_event(uint32_t refusal, uint32_t event, uint32_t none, const char *word)
+{
+    if (refusal && event == 0)
+        printf("- ");
+    else if (refusal == 0 && event == none)
+        printf("%s ", word);
+    else
+        printf("%u ", (unsigned)event);
+}
+
+static void run_why(uint32_t draw, uint32_t rounds, unsigned turn)
+{
+    govahrin_reason reason;
+    remember(&job), remember(&list);
+    reason = govahrin_why(given(&job, turn), job.length, given(&list, turn), list.length, draw, rounds);
+    printf("%u %u ", (unsigned)reason.number, (unsigned)reason.detail);
+    print_event(reason.number, reason.brought, GOVAHRIN_FROM_THE_START, "start");
+    print_event(reason.number, reason.taken, GOVAHRIN_NEVER_TAKEN, "none");
+    printf("%u %u %u", (unsigned)reason.own, (unsigned)reason.another, (unsigned)reason.nothing);
+    look_at(&job, 0), look_at(&list, 0);
+}
+
 /* Both calls between lists and texts: the size that they answer is that of what they wrote, and 0 on a refusal. */
 static void print_written(govahrin_written answer)
 {
@@ -203,6 +228,12 @@ static void run_kind(const char *kind, unsigned turn)
         rounds = (uint32_t)size();
         places = size();
         run_check(rounds, places, size(), turn);
+    } else if (strcmp(kind, "why") == 0) {
+        uint32_t draw;
+        lend_bytes(&job, word(NULL), turn);
+        lend_bytes(&list, word(NULL), turn + 1);
+        draw = (uint32_t)size();
+        run_why(draw, (uint32_t)size(), turn);
     } else if (strcmp(kind, "text-write") == 0) {
         lend_bytes(&list, word(NULL), turn);
         run_write(size(), turn);
@@ -210,7 +241,7 @@ static void run_kind(const char *kind, unsigned turn)
         lend_bytes(&text, word(NULL), turn);
         run_read(size(), turn);
     } else {
-        stop("a case begins with plan, check, text-write or text-read");
+        stop("a case begins with plan, check, why, text-write or text-read");
     }
 }
 

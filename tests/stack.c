@@ -1,7 +1,8 @@
 /* Measures how much stack a call uses: paints the memory below the stack pointer, makes the call, and looks how deep the paint
-   is gone. Accepted calls and refusals, on the largest job, rounds, lists and texts. The words are `plan`, `check` or `text` and a
-   figure; status 1 where more is used. Compile it without optimisation: it reads what a function had, after that function has ended.
-   It calls neither memcpy nor memset, so that a loader which binds late looks them up within the library's calls. */
+   is gone. Accepted calls and refusals, on the largest job, rounds, lists and texts. The words are `plan`, `check`, `why` or
+   `text` and a figure; status 1 where more is used. Compile it without optimisation: it reads what a function had, after that
+   function has ended. It calls neither memcpy nor memset, so that a loader which binds late looks them up within the library's
+   calls. */
 #include "govahrin.h"
 #include <stdio.h>
 #include <stdlib.h>
@@ -14,11 +15,12 @@ static uint8_t job[GOVAHRIN_JOB_SIZE(SLOTS, DRAWS)], list[GOVAHRIN_PLAN_ROOM(DRA
 static uint8_t ticks[GOVAHRIN_TICKS_ROOM(DRAWS)], slots[GOVAHRIN_SLOTS_ROOM(DRAWS)];
 static uint8_t text[GOVAHRIN_TEXT_ROOM(DRAWS) + 1];
 static size_t job_len, list_len, room_len, ticks_len, text_len;
-static uint32_t rounds;
+static uint32_t rounds, draw;
 static uint8_t *const last_event = list + GOVAHRIN_LIST_SIZE(LAST);
 
-/* The call to measure: one of the plans, a check, the writer or the reader of a text. The number that it answers. */
-enum { CHECK = 99, WRITE, READ };
+/* The call to measure: one of the plans, a check, why a draw waited, the writer or the reader of a text. The number that it
+   answers. */
+enum { CHECK = 99, WHY, WRITE, READ };
 static uint32_t called, answered;
 
 static volatile uint8_t *deepest;
@@ -38,6 +40,8 @@ static __attribute__((noinline)) void call(void)
 {
     if (called == CHECK)
         answered = govahrin_check(job, job_len, list, list_len, rounds, ticks, ticks_len, slots, sizeof slots).number;
+    else if (called == WHY)
+        answered = govahrin_why(job, job_len, list, list_len, draw, rounds).number;
     else if (called == WRITE)
         answered = govahrin_write_text(list, list_len, text, text_len).number;
     else if (called == READ)
@@ -78,11 +82,13 @@ static void put(uint8_t *at, unsigned bytes, uint32_t number)
 }
 
 /* The largest calls; each case then breaks one thing. The slots are free and the draws come round after 65 symbols, so that by
-   lru each draw needs a load of F ticks: its list has an event for each, and the slots come round too. */
+   lru each draw needs a load of F ticks: its list has an event for each, and the slots come round too. The last draw is asked
+   about: its symbol was brought and taken out many times. */
 static void restore(void)
 {
     unsigned i;
-    rounds = 1, job_len = sizeof job, list_len = sizeof list, room_len = sizeof room, ticks_len = sizeof ticks;
+    rounds = 1, draw = LAST;
+    job_len = sizeof job, list_len = sizeof list, room_len = sizeof room, ticks_len = sizeof ticks;
     put(job, 4, sizeof job - 4);
     job[4] = 1, job[5] = SLOTS;
     put(job + 6, 2, TIME);
@@ -119,10 +125,10 @@ static void keep_events(unsigned events)
 static void restore_rounds(void)
 {
     restore(), keep_draws(ROUND), keep_events(LAST);
-    rounds = ROUNDS;
+    rounds = ROUNDS, draw = LAST - 1;
 }
 
-/* Jobs and rounds that both calls refuse. */
+/* Jobs and rounds that a plan, a check and why a draw waited refuse. */
 static void measure_jobs(uint32_t which)
 {
     restore(), job_len--;
@@ -150,30 +156,45 @@ static void measure_plan(uint32_t which)
     measure(which, GOVAHRIN_ROOM);
 }
 
-static void measure_checks(void)
+/* Lists that a check and why a draw waited accept or refuse. */
+static void measure_lists(uint32_t which)
 {
     const uint32_t before = (TIME + 1) * (LAST - 1);
     restore();
-    measure(CHECK, GOVAHRIN_ACCEPTED);
+    measure(which, GOVAHRIN_ACCEPTED);
     restore_rounds();
-    measure(CHECK, GOVAHRIN_ACCEPTED);
-    measure_jobs(CHECK);
+    measure(which, GOVAHRIN_ACCEPTED);
+    measure_jobs(which);
+    restore(), list[4] = 2;
+    measure(which, GOVAHRIN_LIST_BYTES);
+    restore(), put(last_event, 4, before);
+    measure(which, GOVAHRIN_EVENT_TICK);
+    restore(), put(last_event, 4, before + 1);
+    measure(which, GOVAHRIN_EVENT_BUSY);
+    restore(), last_event[4] = SLOTS;
+    measure(which, GOVAHRIN_EVENT_SLOT);
+    restore(), put(last_event + 5, 2, GOVAHRIN_FREE);
+    measure(which, GOVAHRIN_EVENT_SYMBOL);
+    restore(), keep_events(LAST);
+    measure(which, GOVAHRIN_DRAW_NEVER);
+    restore(), keep_draws(LAST);
+    measure(which, GOVAHRIN_EVENT_LEFT);
+}
+
+static void measure_checks(void)
+{
+    measure_lists(CHECK);
     restore(), ticks_len--;
     measure(CHECK, GOVAHRIN_ROOM);
-    restore(), list[4] = 2;
-    measure(CHECK, GOVAHRIN_LIST_BYTES);
-    restore(), put(last_event, 4, before);
-    measure(CHECK, GOVAHRIN_EVENT_TICK);
-    restore(), put(last_event, 4, before + 1);
-    measure(CHECK, GOVAHRIN_EVENT_BUSY);
-    restore(), last_event[4] = SLOTS;
-    measure(CHECK, GOVAHRIN_EVENT_SLOT);
-    restore(), put(last_event + 5, 2, GOVAHRIN_FREE);
-    measure(CHECK, GOVAHRIN_EVENT_SYMBOL);
-    restore(), keep_events(LAST);
-    measure(CHECK, GOVAHRIN_DRAW_NEVER);
-    restore(), keep_draws(LAST);
-    measure(CHECK, GOVAHRIN_EVENT_LEFT);
+}
+
+static void measure_why(void)
+{
+    measure_lists(WHY);
+    restore(), draw = 0;
+    measure(WHY, GOVAHRIN_ACCEPTED);
+    restore(), draw = DRAWS;
+    measure(WHY, GOVAHRIN_DRAW_NUMBER);
 }
 
 static void put_decimal(uint8_t *at, unsigned digits, uint32_t number, uint8_t stop)
@@ -228,6 +249,8 @@ int main(int count, char **words)
     if (figure == 0) return 2;
     if (strcmp(words[1], "check") == 0) {
         measure_checks();
+    } else if (strcmp(words[1], "why") == 0) {
+        measure_why();
     } else if (strcmp(words[1], "text") == 0) {
         measure_texts();
     } else {

@@ -1,5 +1,6 @@
 /* What happens where a caller breaks the trust that include/govahrin.h puts in it. `trust overlap` makes calls whose memory overlaps and
-   compares answers and bytes with what this file says of them; `trust plan` makes the largest plan, to be run on too small a stack. */
+   compares answers and bytes with what this file says of them; `trust plan` makes the largest plan, to be run on too small a
+   stack, and `trust why` asks why the last draw of its list waited, to be run on the same stack, which is enough for that. */
 #include "govahrin.h"
 #include <stdio.h>
 #include <string.h>
@@ -91,6 +92,29 @@ static void write_over_its_list(void)
                  sizeof text_a);
 }
 
+/* A list that lies in its job: the bytes of the seven draws 0 10 256 256 0 513 3 are the list with the event 2/1/3. Nothing is
+   written, so no trust is broken. The last draw waits for that load until tick 11, and it takes out 99, which is never drawn. */
+static void why_of_a_list_in_its_job(void)
+{
+    static const uint8_t both[] = {0, 0, 0, 30, 1, 5, 0, 9, 0, 7, 0, 0, 0, 99, 0, 10, 1,
+                                   0, 2, 1, 0,  0, 0, 10, 1, 0, 1, 0, 0, 0,  2, 1,  0, 3};
+    static const govahrin_reason expected = {0, 0, 0, GOVAHRIN_NEVER_TAKEN, 5, 0, 0};
+    govahrin_reason r = govahrin_why(both, sizeof both, both + 20, sizeof both - 20, 6, 1);
+    if (memcmp(&r, &expected, sizeof r) == 0) return;
+    printf("why, of a list in its job: answered %u, or other numbers\n", (unsigned)r.number);
+    wrong = 1;
+}
+
+/* What a list tells of a draw is the same where job and list are in memory that cannot be written. */
+static void why_of_constant_memory(void)
+{
+    static const govahrin_reason expected = {0, 0, 2, 1, 3, 0, 0};
+    govahrin_reason r = govahrin_why(job_a, sizeof job_a, runs[1].list, runs[1].list_len, 7, runs[1].rounds);
+    if (memcmp(&r, &expected, sizeof r) == 0) return;
+    printf("why, of constant memory: answered %u, or other numbers\n", (unsigned)r.number);
+    wrong = 1;
+}
+
 static uint8_t job[GOVAHRIN_JOB_SIZE(SLOTS, DRAWS)], room[GOVAHRIN_PLAN_ROOM(DRAWS)];
 
 static void put(uint8_t *at, unsigned bytes, uint32_t number)
@@ -98,7 +122,7 @@ static void put(uint8_t *at, unsigned bytes, uint32_t number)
     while (bytes--) at[bytes] = (uint8_t)number, number /= 256;
 }
 
-static int largest_plan(void)
+static void put_job(void)
 {
     unsigned i;
     put(job, 4, sizeof job - 4);
@@ -107,13 +131,35 @@ static int largest_plan(void)
     put(job + 8, 2, DRAWS);
     for (i = 0; i < SLOTS; i++) put(job + 10 + 2 * i, 2, GOVAHRIN_FREE);
     for (i = 0; i < DRAWS; i++) put(job + 10 + 2 * SLOTS + 2 * i, 2, i % (SLOTS + 1));
+}
+
+static int largest_plan(void)
+{
+    put_job();
     return govahrin_plan(job, sizeof job, GOVAHRIN_LRU, 1, room, sizeof room).number != 0;
+}
+
+/* The list that lru plans: a load for each draw, the slots in turn. */
+static int largest_why(void)
+{
+    unsigned i;
+    put_job();
+    put(room, 4, sizeof room - 4);
+    room[4] = 1;
+    put(room + 5, 2, DRAWS);
+    for (i = 0; i < DRAWS; i++) {
+        put(room + 7 + 7 * i, 4, (TIME + 1) * i);
+        room[7 + 7 * i + 4] = (uint8_t)(i % SLOTS);
+        put(room + 7 + 7 * i + 5, 2, i % (SLOTS + 1));
+    }
+    return govahrin_why(job, sizeof job, room, sizeof room, DRAWS - 1, 1).number != 0;
 }
 
 int main(int count, char **words)
 {
     unsigned i;
     if (count == 2 && strcmp(words[1], "plan") == 0) return largest_plan();
+    if (count == 2 && strcmp(words[1], "why") == 0) return largest_why();
     if (count != 2 || strcmp(words[1], "overlap") != 0) return 2;
     for (i = 0; i < 2; i++) {
         plan_over_its_job(&runs[i]);
@@ -122,5 +168,7 @@ int main(int count, char **words)
     }
     read_over_its_text();
     write_over_its_list();
+    why_of_a_list_in_its_job();
+    why_of_constant_memory();
     return wrong;
 }

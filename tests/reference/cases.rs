@@ -1,9 +1,11 @@
 // Random cases from a seed: jobs and lists, whole and damaged in every field, from empty to the limits; rounds, from none
 // to far too many; lists that a plan made, lists of a player who loads strange symbols into strange slots, and both with
-// events changed, for the rounds that are asked or for others.
+// events changed, for the rounds that are asked or for others. Where it is asked why a draw waited, most lists are ones that are
+// accepted, and most draws are ones that waited.
 use crate::dice::Dice;
-use crate::rules::{follow, job_bytes, judge_ticks, list_bytes, planned, unrolled, Display, Event, Job, FREE, LAST_TICK, MOST_DRAWS};
-use crate::text::{check_case, plan_case};
+use crate::rules::{follow, job_bytes, judge_ticks, list_bytes, planned, unrolled};
+use crate::rules::{Display, Event, Job, Run, FREE, LAST_TICK, MOST_DRAWS};
+use crate::text::{check_case, plan_case, why_case};
 
 pub fn a_case(dice: &mut Dice) -> String {
     if dice.one_in(3) { a_plan(dice) } else { a_check(dice) }
@@ -193,10 +195,14 @@ fn later_from(dice: &mut Dice, job: &Job, events: &mut [Event]) {
     events.iter_mut().for_each(|event| event.tick += late);
 }
 
+/// Whether a list can be followed, and without millions of ticks.
+fn is_soon(events: &[Event]) -> bool {
+    judge_ticks(events).is_ok() && events.iter().all(|event| event.tick < 100_000)
+}
+
 /// One more event about the end: still within the run, in its last tick, or after it.
 fn append(dice: &mut Dice, job: &Job, events: &mut Vec<Event>) {
-    let soon = judge_ticks(events).is_ok() && events.iter().all(|event| event.tick < 100_000);
-    let elapsed = if soon { follow(job, events).map_or(0, |run| run.elapsed) } else { 0 };
+    let elapsed = if is_soon(events) { follow(job, events).map_or(0, |run| run.elapsed) } else { 0 };
     let after = events.last().map_or(0, |event| event.tick + dice.of(&[1, job.load_time]));
     let tick = dice.of(&[elapsed.saturating_sub(1), elapsed, elapsed + 1, after, after]);
     let any = stranger(dice, job);
@@ -307,6 +313,79 @@ fn bytes_of_list(dice: &mut Dice, sheet: &Job, rounds: u32) -> Vec<u8> {
         damage(dice, 7, &mut list);
     }
     list
+}
+
+pub fn a_why(dice: &mut Dice) -> String {
+    let sheet = a_job(dice);
+    let rounds = some_rounds(dice, sheet.draws.len());
+    let wild = dice.one_in(4);
+    let kept = if wild { None } else { unrolled(&sheet, rounds).ok().and_then(|job| kept_list(dice, &job)) };
+    let (list, run) = match kept {
+        Some((events, run)) => (list_bytes(&events), Some(run)),
+        None => (bytes_of_list(dice, &sheet, rounds), None),
+    };
+    let bytes = bytes_of_job(dice, &sheet, 24);
+    why_case(&bytes, &list, a_draw(dice, sheet.draws.len(), rounds, run), rounds)
+}
+
+/// A list that the display keeps to, with its run: a plan's or a player's, and changes of it as long as it is still kept to.
+fn kept_list(dice: &mut Dice, job: &Job) -> Option<(Vec<Event>, Run)> {
+    let mut events = match dice.between(0, 7) {
+        0 => planned(job, dice.between(0, 3) as u32).events,
+        1 => delayed(dice, job),
+        2..=4 => wandered(dice, job),
+        _ => shuffled(dice, job),
+    };
+    let mut run = follow(job, &events).ok()?;
+    for _ in 0..dice.between(0, 3) {
+        let mut changed = events.clone();
+        change(dice, job, &mut changed);
+        if let Some(Ok(other)) = is_soon(&changed).then(|| follow(job, &changed)) {
+            (events, run) = (changed, other);
+        }
+    }
+    Some((events, run))
+}
+
+/// The list of a player who takes out what is drawn next or soon, idles, and loads another symbol before the one that is wanted.
+/// So a symbol goes and comes back many times, and a draw waits for all three causes.
+fn shuffled(dice: &mut Dice, job: &Job) -> Vec<Event> {
+    let mut display = Display::new(job);
+    let mut events = vec![];
+    let (idle, detour, theft) = (dice.of(&[2, 3, 9]), dice.of(&[2, 3, 9]), dice.of(&[2, 4, 12]));
+    while !display.done() && events.len() < 4_000 {
+        display.land();
+        let wanted = job.draws[display.next];
+        let home = display.slot_of(wanted);
+        let soon = job.draws[display.next + dice.place((job.draws.len() - display.next).min(4))];
+        let slot = if dice.one_in(2) { display.slot_of(soon) } else { home }.unwrap_or_else(|| dice.place(job.starts.len()));
+        let symbol = if home.is_some() || dice.one_in(detour) { stranger(dice, job) } else { wanted };
+        let wish = if home.is_some() { dice.one_in(theft) } else { !dice.one_in(idle) };
+        let event = Event { tick: display.tick, slot, symbol };
+        if wish && display.begin(event, 0).is_ok() {
+            events.push(event);
+        }
+        display.draw_or_wait();
+    }
+    events
+}
+
+/// The draw that is asked about: of a run mostly one that waited, any other draw there is, or one at the end or far over it. One
+/// that would be a draw again when counted at 16 bits is among them. Where the list may be refused, a draw over the end is not
+/// rare, since that is refused later.
+fn a_draw(dice: &mut Dice, n: usize, rounds: u32, run: Option<Run>) -> u32 {
+    let all = (n as u64 * rounds as u64).min(MOST_DRAWS as u64 + 1);
+    let any = dice.place(all as usize) as u64;
+    let ticks = run.map_or(vec![], |run| run.draw_ticks);
+    let waited = |draw: &usize| ticks[*draw] > if *draw == 0 { 0 } else { ticks[draw - 1] + 1 };
+    let waiting: Vec<usize> = (0..ticks.len()).filter(waited).collect();
+    let draw = match dice.between(0, if ticks.is_empty() { 3 } else { 19 }) {
+        0 => dice.of(&[all, all, all + 1, n as u64, MOST_DRAWS as u64, any + 65_536, 1 << 31, u32::MAX as u64]),
+        1 => all.saturating_sub(1),
+        2..=13 if !waiting.is_empty() => dice.of(&waiting) as u64,
+        _ => any,
+    };
+    draw as u32
 }
 
 /// A list about the limit of 4,096 events.

@@ -1,6 +1,7 @@
 // The reference: answers cases by the rules alone, and makes random cases.
 //   reference answer             cases on standard input, one a line; the same lines with their answers on standard output
 //   reference cases SEED COUNT   COUNT random cases, always the same for one seed
+//   reference whys SEED COUNT    the same for the question why a draw waited
 //   reference texts SEED COUNT   the same for texts: a list to be written, or a text to be read, most of them damaged
 //   reference words              cases on standard input, in words
 // Built by `rustc -O main.rs`, with nothing but the standard library.
@@ -35,9 +36,10 @@ fn main() {
         ["answer"] => each_line(text::answered),
         ["words"] => each_line(text::in_words),
         ["cases", seed, count] => each_case(seed, count, cases::a_case),
+        ["whys", seed, count] => each_case(seed, count, cases::a_why),
         ["texts", seed, count] => each_case(seed, count, texts::a_case),
         _ => {
-            eprintln!("usage: reference answer | reference words | reference cases | texts SEED COUNT");
+            eprintln!("usage: reference answer | reference words | reference cases | whys | texts SEED COUNT");
             std::process::exit(2);
         }
     }

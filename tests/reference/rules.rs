@@ -1,5 +1,6 @@
 // The rules as plainly as they can be said in Rust: simple and slow, one tick at a time, every search a
 // scan from the front. Nothing here was taken from the library; it is what the library is compared with.
+use std::ops::Range;
 
 pub const FREE: u16 = 65535;
 const MOST_SLOTS: usize = 64;
@@ -297,6 +298,59 @@ pub fn follow(job: &Job, events: &[Event]) -> Result<Run, Refusal> {
         return refuse(14, begun);
     }
     Ok(display.finish())
+}
+
+// ---- why a draw waited
+
+/// What is told of one draw. An event is its number in the list.
+#[derive(Clone, Debug, PartialEq)]
+pub struct Reason {
+    pub brought: Option<usize>,
+    pub taken: Option<usize>,
+    pub own: u64,
+    pub another: u64,
+    pub nothing: u64,
+}
+
+/// All refusals of a check with room enough for any, so that 7 is not among them; then 18.
+pub fn why(job: &[u8], list: &[u8], draw: u32, rounds: u32) -> Result<Reason, Refusal> {
+    let run = check(job, list, rounds, MOST_DRAWS, MOST_DRAWS)?;
+    let job = unrolled(&read_job(job)?, rounds)?;
+    if draw as usize >= job.draws.len() {
+        return refuse(18, 0);
+    }
+    Ok(reason(&job, &run, draw as usize))
+}
+
+/// Told from the list and the draw ticks of an accepted run, looking back from the draw's tick; nothing is stepped again.
+fn reason(job: &Job, run: &Run, draw: usize) -> Reason {
+    let (symbol, tick) = (job.draws[draw], run.draw_ticks[draw]);
+    let first = if draw == 0 { 0 } else { run.draw_ticks[draw - 1] + 1 };
+    let ended = |event: &Event| event.tick + job.load_time <= tick;
+    let takes = |i: usize| run.events[i].tick <= tick && went_out(job, &run.events, i) == Some(symbol);
+    let shared = |event: &Event| shared_ticks(first..tick, event.tick..event.tick + job.load_time);
+    let own: u64 = run.events.iter().filter(|event| event.symbol == symbol).map(shared).sum();
+    let another: u64 = run.events.iter().filter(|event| event.symbol != symbol).map(shared).sum();
+    Reason {
+        brought: run.events.iter().rposition(|event| event.symbol == symbol && ended(event)),
+        taken: (0..run.events.len()).rev().find(|&i| takes(i)),
+        own,
+        another,
+        nothing: tick - first - own - another,
+    }
+}
+
+/// What an event took out of its slot: what the event before it in that slot brought, which has ended since only one load is
+/// under way at a time; else what was there at the start, if anything.
+fn went_out(job: &Job, events: &[Event], i: usize) -> Option<u16> {
+    let slot = events[i].slot;
+    let before = events[..i].iter().rfind(|event| event.slot == slot).map(|event| event.symbol);
+    before.or(Some(job.starts[slot]).filter(|&symbol| symbol != FREE))
+}
+
+/// How many ticks two stretches of time share; neither has its end.
+fn shared_ticks(one: Range<u64>, other: Range<u64>) -> u64 {
+    one.end.min(other.end).saturating_sub(one.start.max(other.start))
 }
 
 // ---- the four plans

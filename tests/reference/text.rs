@@ -1,5 +1,6 @@
 // Cases and answers as lines of text, in the form of tests/vectors: bytes in hexadecimal, `-` for none.
-use crate::rules::{check, list_bytes, plan, planned, read_job, read_text, write_text, Event, Refusal, Run, PLAN_NAMES};
+use crate::rules::{check, list_bytes, plan, planned, read_job, read_text, why, write_text};
+use crate::rules::{Event, Reason, Refusal, Run, PLAN_NAMES};
 
 pub fn hex(bytes: &[u8]) -> String {
     if bytes.is_empty() {
@@ -38,12 +39,25 @@ pub fn check_case(job: &[u8], list: &[u8], rounds: u32, ticks: usize, slots: usi
     format!("check {} {} {rounds} {ticks} {slots}", hex(job), hex(list))
 }
 
+pub fn why_case(job: &[u8], list: &[u8], draw: u32, rounds: u32) -> String {
+    format!("why {} {} {draw} {rounds}", hex(job), hex(list))
+}
+
 pub fn write_case(list: &[u8], room: usize) -> String {
     format!("text-write {} {room}", hex(list))
 }
 
 pub fn read_case(text: &[u8], room: usize) -> String {
     format!("text-read {} {room}", hex(text))
+}
+
+/// The two events of a reason, or the words for none; then the waits in three parts. Of a refusal there are no events.
+fn told(result: Result<Reason, Refusal>) -> String {
+    let event = |event: Option<usize>, none: &str| event.map_or(none.to_string(), |event| event.to_string());
+    match result {
+        Ok(r) => format!("0 0 {} {} {} {} {}", event(r.brought, "start"), event(r.taken, "none"), r.own, r.another, r.nothing),
+        Err(refusal) => format!("{} {} - - 0 0 0", refusal.number, refusal.detail),
+    }
 }
 
 fn written(result: Result<Vec<u8>, Refusal>) -> String {
@@ -68,10 +82,11 @@ pub fn answered(line: &str) -> String {
             Ok(run) => format!("{} {} {}", counts(&run), joined(&run.draw_ticks), joined(&run.draw_slots)),
             Err(refusal) => refused(refusal, "- -"),
         },
+        "why" => told(why(&bytes(words[1]), &bytes(words[2]), number(3), number(4))),
         "summary" => summary(&bytes(words[1])),
         "text-write" => written(write_text(&bytes(words[1]), size(2))),
         "text-read" => written(read_text(&bytes(words[1]), size(2))),
-        word => panic!("a case begins with plan, check, summary, text-write or text-read, not with {word}"),
+        word => panic!("a case begins with plan, check, why, summary, text-write or text-read, not with {word}"),
     };
     format!("{case} => {answer}")
 }
@@ -108,9 +123,13 @@ fn run_in_words(words: &[&str]) -> String {
     let asked = match words[0] {
         "plan" => format!(" {}, rounds {}, room {}", words[2], words[3], words[4]),
         "check" => format!(", rounds {}, room for {} ticks and {} slots", words[3], words[4], words[5]),
+        "why" => format!(" of draw {}, rounds {}", words[3], words[4]),
         _ => String::new(),
     };
-    let list = if words[0] == "check" { format!("\n  list {}", events_in_words(&bytes(words[2]))) } else { String::new() };
+    let list = match words[0] {
+        "check" | "why" => format!("\n  list {}", events_in_words(&bytes(words[2]))),
+        _ => String::new(),
+    };
     format!("{}{asked}\n  {job}{list}", words[0])
 }
 
