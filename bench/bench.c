@@ -8,9 +8,10 @@
 
 enum { REPEATS = 5, SHORTEST = 8000000 };
 
-static const char *const names[] = {"aggressive", "conservative", "opt", "lru", "check", "write", "read"};
+static const char *const names[] = {"aggressive", "conservative", "opt",        "lru",     "check",
+                                    "write",      "read",         "why-middle", "why-last"};
 
-/* What the check is given where no other list is made: the list of conservative. */
+/* What the check and the question why are given where no other list is made: the list of conservative. */
 static void put_conservative(void)
 {
     govahrin_answer planned = plain_plan(input.job, input.job_len, GOVAHRIN_CONSERVATIVE, input.rounds, input.list, ROOM);
@@ -119,7 +120,7 @@ static void row(const char *sheet, int what)
 {
     double mine = 0, theirs, one;
     unsigned i, calls;
-    if (!agree(what) || ours.answer.number || ours.written.number) {
+    if (!agree(what) || ours.answer.number || ours.reason.number || ours.written.number) {
         fprintf(stderr, "bench: the library and the plain program answer differently: %s, %s, n %u, k %u, F %u, rounds %u\n",
                 sheet, names[what], input.n, input.k, input.f, input.rounds);
         exit(1);
@@ -135,11 +136,19 @@ static void row(const char *sheet, int what)
     fflush(stdout);
 }
 
+/* Why a draw in the middle and the last draw waited. The list is followed to its end for either. */
+static void whys(const char *sheet)
+{
+    row(sheet, WHY_MIDDLE);
+    row(sheet, WHY_LAST);
+}
+
 static void chart(unsigned n, unsigned k, unsigned f)
 {
     int what;
     make_chart(n, k, f);
     for (what = 0; what <= CHECK; what++) row("chart", what);
+    whys("chart");
 }
 
 static void worst(unsigned n, unsigned k, unsigned f)
@@ -147,19 +156,23 @@ static void worst(unsigned n, unsigned k, unsigned f)
     int what;
     make_different(n, k, f);
     for (what = 0; what <= CHECK; what++) row("different", what);
+    whys("different");
     make_late(n, k, f);
     row("worst", AGGRESSIVE);
     make_useless(n, k, f);
     row("worst", CHECK);
+    whys("worst");
 }
 
-/* The sheet that was made, redrawn so often; the check is given the list that conservative plans for all rounds. */
+/* The sheet that was made, redrawn so often; the check and the question why are given the list that conservative plans for
+   all rounds. */
 static void redraw(const char *sheet, unsigned rounds)
 {
     int what;
     input.rounds = rounds;
     put_conservative();
     for (what = 0; what <= CHECK; what++) row(sheet, what);
+    whys(sheet);
 }
 
 /* Made last, so that the sheets before them, which go by the same dice, do not depend on them. */
@@ -208,6 +221,7 @@ int main(void)
     chart(4096, 64, 1000);
     make_longest();
     row("longest", CHECK);
+    whys("longest");
     for (i = 0; i < 5; i++) worst(n[i], 64, 1);
     for (i = 0; i < 4; i++) worst(1024, k[i], 1);
     worst(1024, 64, 1000);

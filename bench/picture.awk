@@ -3,11 +3,12 @@
 
 /^#/ { next }
 
-# All sheets that are redrawn are of one kind; their rounds stand after n, k and F.
+# All sheets that are redrawn are of one kind; their rounds stand after n, k and F. Why a draw waited has its own kinds.
 {
     kind = $1
     sheet = $3 " " $4 " " $5
     if (match($1, /-[0-9]+$/)) { kind = "rounds"; sheet = sheet " " substr($1, RSTART + 1) }
+    if ($2 ~ /^why-/) kind = "why " kind
     if (!((kind, sheet) in seen)) { seen[kind, sheet] = 1; order[kind, ++sheets[kind]] = sheet }
     ratio[kind, $2, sheet] = $6; least[kind, $2, sheet] = $7; most[kind, $2, sheet] = $8
     ours[kind, $2, sheet] = $9; plain[kind, $2, sheet] = $10
@@ -110,8 +111,8 @@ BEGIN {
     calls = split(all, name, " ")
     split("#000000 #d55e00 #0072b2 #009e73 #cc79a7", tints, " ")
     for (w = 1; w <= calls; w++) colour[name[w]] = tints[w]
-    colour["write"] = "#0072b2"
-    colour["read"] = "#d55e00"
+    colour["write"] = colour["why-middle"] = "#0072b2"
+    colour["read"] = colour["why-last"] = "#d55e00"
 }
 
 END {
@@ -136,6 +137,13 @@ END {
     y = ratios(y, "Sheets with all draws different", "different", all)
     y = ratios(y, "Sheets made to slow check and aggressive", "worst", "check aggressive")
     if (sheets["rounds"]) y = ratios(y, "Sheets in rounds (k 64: all draws different)", "rounds", all)
+    if (sheets["why chart"]) {
+        whys = "why-middle why-last"
+        y = ratios(y, "Why: the middle draw (blue), the last (orange); charts", "why chart", whys)
+        y = ratios(y, "Why: all draws different", "why different", whys)
+        y = ratios(y, "Why: sheets made to slow the check", "why worst", whys)
+        y = ratios(y, "Why: sheets in rounds (k 64: all draws different)", "why rounds", whys)
+    }
     y = ratios(y, "Texts: written (blue) and read (orange)", "text", "write read")
     y += 18
     text(10, y, 16, "start", "Growth: time as a multiple of the smallest size's", " font-weight=\"bold\"")

@@ -1,6 +1,6 @@
 /* The rules of documents 01 and 02 in plain C, as a careful programmer would write them for reading: one tick at a time,
-   each slot search a scan over the slots, each next-draw search a scan over the remaining draws, a text read once from
-   its first byte to its last. The benchmark holds the library against it. */
+   each slot search a scan over the slots, each next-draw search a scan over the remaining draws, a draw explained along
+   one run of its list, a text read once from its first byte to its last. The benchmark holds the library against it. */
 #include "plain.h"
 #include <string.h>
 
@@ -240,6 +240,66 @@ govahrin_answer plain_check(const uint8_t *job_bytes, size_t job_len, const uint
             slots[i] = draw_slots[i];
         }
     return answer;
+}
+
+/* ---- why a draw waited */
+
+static govahrin_reason untold(uint32_t number, uint32_t detail)
+{
+    govahrin_reason reason = {number, detail, 0, 0, 0, 0, 0};
+    return reason;
+}
+
+/* One more wait for a symbol, in the part that it belongs to. */
+static void count_wait(govahrin_reason *reason, const struct display *display, uint32_t symbol)
+{
+    if (!display->under_way)
+        reason->nothing++;
+    else if (display->load.symbol == symbol)
+        reason->own++;
+    else
+        reason->another++;
+}
+
+/* Goes along the whole list as a check does, and notes what happens to the draw's symbol as long as the draw is to come. */
+static govahrin_reason explain(const struct job *job, const uint8_t *list, uint32_t draw)
+{
+    govahrin_reason reason = {0, 0, GOVAHRIN_FROM_THE_START, GOVAHRIN_NEVER_TAKEN, 0, 0, 0};
+    struct display display;
+    uint32_t events = two(list + 5), begun = 0, symbol = draw < job->draws ? draw_symbol(job, draw) : NOTHING;
+    start(&display, job);
+    while (display.next < job->draws) {
+        const uint32_t place = display.next;
+        const int loading = display.under_way;
+        land(&display, job);
+        if (loading && !display.under_way && display.load.symbol == symbol && place <= draw) reason.brought = begun - 1;
+        if (begun < events && read_event(list, begun).tick == display.tick) {
+            const struct event event = read_event(list, begun);
+            const int takes = event.slot < job->slots && display.held[event.slot] == symbol;
+            const uint32_t refusal = begin(&display, job, event);
+            if (refusal) return untold(refusal, begun);
+            if (takes && place <= draw) reason.taken = begun;
+            begun++;
+        }
+        if (draw_or_wait(&display, job) < job->slots) continue;
+        if (!display.under_way && begun == events) return untold(13, place);
+        if (place == draw) count_wait(&reason, &display, symbol);
+    }
+    if (begun < events) return untold(14, begun);
+    return draw < job->draws ? reason : untold(18, 0);
+}
+
+govahrin_reason plain_why(const uint8_t *job_bytes, size_t job_len, const uint8_t *list, size_t list_len, uint32_t draw,
+                          uint32_t rounds)
+{
+    uint8_t row[2 * MOST_DRAWS];
+    struct job job;
+    uint32_t unruly, refusal = read_rounds(job_bytes, job_len, rounds, row, &job);
+    if (refusal) return untold(refusal, 0);
+    if (!list_is_right(list, list_len)) return untold(8, 0);
+    unruly = first_unruly(list, two(list + 5));
+    if (unruly < two(list + 5)) return untold(9, unruly);
+    return explain(&job, list, draw);
 }
 
 /* ---- the four plans */

@@ -61,10 +61,21 @@ static void call_text(int library, int what, struct output *o)
         o->written = plain_read_text(input.text, input.text_len, o->room, ROOM);
 }
 
+static void call_why(int library, int what, struct output *o)
+{
+    const uint32_t all = input.n * input.rounds, draw = what == WHY_LAST ? all - 1 : all / 2;
+    if (library)
+        o->reason = govahrin_why(input.job, input.job_len, input.list, input.list_len, draw, input.rounds);
+    else
+        o->reason = plain_why(input.job, input.job_len, input.list, input.list_len, draw, input.rounds);
+}
+
 static void call(int library, int what, struct output *o)
 {
     if (what == WRITE || what == READ)
         call_text(library, what, o);
+    else if (what == WHY_MIDDLE || what == WHY_LAST)
+        call_why(library, what, o);
     else if (what == CHECK && library)
         o->answer = govahrin_check(input.job, input.job_len, input.list, input.list_len, input.rounds, o->ticks,
                                    sizeof o->ticks, o->slots, sizeof o->slots);

@@ -6,7 +6,7 @@
 #include "plain.h"
 
 enum { ROOM = 7 + 7 * 4096, TEXT_ROOM = 18 * 4096 };
-enum { AGGRESSIVE = 0, CHECK = 4, WRITE = 5, READ = 6 };
+enum { AGGRESSIVE = 0, CHECK = 4, WRITE = 5, READ = 6, WHY_MIDDLE = 7, WHY_LAST = 8 };
 
 struct input {
     uint8_t job[10 + 2 * 64 + 2 * 4096], list[ROOM], text[TEXT_ROOM];
@@ -16,6 +16,7 @@ struct input {
 
 struct output {
     govahrin_answer answer;
+    govahrin_reason reason;
     govahrin_written written;
     uint8_t room[ROOM], ticks[4 * 4096], slots[4096], text[TEXT_ROOM];
 };
@@ -34,7 +35,8 @@ void put_event(unsigned place, uint32_t tick, unsigned slot, unsigned symbol);
 /* Makes the text of the list that was put. */
 void put_text(void);
 
-/* Whether the library and the plain program answer the same bytes: one of the four plans, CHECK, WRITE or READ. */
+/* Whether the library and the plain program answer the same bytes: one of the four plans, CHECK, WRITE or READ, or why the
+   draw in the middle of all rounds or the last one waited, WHY_MIDDLE or WHY_LAST. */
 int agree(int what);
 
 /* The nanoseconds of one call, over so many, of the library or the plain program. */

@@ -13,9 +13,11 @@ BEGIN {
 
 /^#/ { key = $2; sub(/^# [^ ]* /, ""); told[key] = $0; next }
 
-# All sheets that are redrawn are of one kind; what they are and their rounds stand after n, k and F.
+# All sheets that are redrawn are of one kind, and all on which it is asked why a draw waited; what they are and their rounds
+# stand after n, k and F.
 {
-    kind = $1
+    kind = of = $1
+    rounds = 1
     sheet = $3 " " $4 " " $5
     texts = kind == "text" || kind == "wide"
     named = called[kind] (texts ? ", " $3 " events" : ", n " $3 ", k " $4 ", F " $5)
@@ -23,9 +25,11 @@ BEGIN {
         kind = "rounds"
         of = substr($1, 1, RSTART - 1)
         rounds = substr($1, RSTART + 1)
-        sheet = sheet " " of " " rounds
         named = called[of] ", n " $3 ", k " $4 ", F " $5 ", " rounds " rounds"
     }
+    whys = $2 ~ /^why-/
+    if (whys) kind = "why"
+    if (listed(kind)) sheet = sheet " " of " " rounds
     misses = sprintf("%.2f", $6) + 0 > aim
     if (!((kind, sheet) in seen)) { seen[kind, sheet] = 1; order[kind, ++sheets[kind]] = sheet }
     ratio[kind, $2, sheet] = (misses ? "**" shown($6) "**" : shown($6)) " (" shown($7) " to " shown($8) ")"
@@ -36,9 +40,12 @@ BEGIN {
         if (!(named in missed)) missing[++lines] = named
         missed[named] = missed[named] (missed[named] == "" ? "" : ", ") sprintf("%s %.2f", $2, $6)
     }
-    asked = texts || $2 == "check" ? $2 : "plan"
+    asked = texts || $2 == "check" ? $2 : whys ? "why" : "plan"
     if ($9 > slowest[asked]) { slowest[asked] = $9; slowestAt[asked] = (asked == "plan" ? $2 ", " : "") named }
 }
+
+# Whether the table of a kind has different sheets in different rounds.
+function listed(kind) { return kind == "rounds" || kind == "why" }
 
 function shown(v) { return sprintf(v < 0.0095 ? "%.3f" : "%.2f", v) }
 
@@ -73,10 +80,10 @@ function textTable(   i, kind, sheet) {
 # A table of the ratios and the library's times on all sheets of a kind.
 function table(kind, calls,   count, call, i, w, part, line) {
     count = split(calls, call, " ")
-    head((kind == "rounds" ? "| sheet | rounds |" : "|") " n | k | F |", calls)
+    head((listed(kind) ? "| sheet | rounds |" : "|") " n | k | F |", calls)
     for (i = 1; i <= sheets[kind]; i++) {
         split(order[kind, i], part, " ")
-        line = (kind == "rounds" ? "| " called[part[4]] " | " part[5] " |" : "|") " " part[1] " | " part[2] " | " part[3] " |"
+        line = (listed(kind) ? "| " called[part[4]] " | " part[5] " |" : "|") " " part[1] " | " part[2] " | " part[3] " |"
         for (w = 1; w <= count; w++)
             line = line " " ratio[kind, call[w], order[kind, i]] ", " time(ours[kind, call[w], order[kind, i]]) " |"
         print line
@@ -159,6 +166,15 @@ END {
         table("rounds", all)
     }
 
+    if (sheets["why"]) {
+        print "\n## Why a draw waited\n"
+        print "For the draw in the middle of all rounds and for the last draw of the sheets above: which event brought its symbol,"
+        print "which took it out, and its waits in three parts. The list is that of the check. It is followed to its end for either"
+        print "draw, since what a check refuses is refused also where it comes after the draw."
+        table("why", "why-middle why-last")
+        print "\nThe slowest of these found takes " time(slowest["why"]) " (" slowestAt["why"] ")."
+    }
+
     print "\n## Texts\n"
     print "A list written as text, and that text read. Its ticks rise by 1 to 500, its slots and symbols are any, by chance. In the"
     print "longest text every line has 18 bytes. The plain program counts the digits of a number and then writes them, and reads a text"
@@ -183,6 +199,12 @@ END {
     growth("In k, all draws different, n 1,024 and F 1", "different", all, "k", ks, "1024 ", " 1")
     growth("In n, sheets made to be slow, k 64 and F 1", "worst", "check aggressive", "n", ns, "", " 64 1")
     growth("In k, sheets made to be slow, n 1,024 and F 1", "worst", "check aggressive", "k", ks, "1024 ", " 1")
+    if (sheets["why"]) {
+        growth("In n, why a draw waited, sheets like charts with k 16 and F 30", "why", "why-middle why-last", "n", ns, "",
+            " 16 30 chart 1")
+        growth("In k, why a draw waited, sheets like charts with n 1,024 and F 30", "why", "why-middle why-last", "k", ks, "1024 ",
+            " 30 chart 1")
+    }
     growth("In m, texts of m events", "text", "write read", "m", "64 512 4096", "", " 0 0")
     print ""
 }
