@@ -22,6 +22,15 @@ help_check() {
 TEXT
 }
 
+help_why() {
+    cat <<'TEXT'
+  govahrin why SHEET.job WHAT [DRAW] [--rounds R] [--names FILE]
+      Why a draw waited: how many ticks, and what was loading meanwhile; the event that brought its symbol, or that it was in a
+      slot from the start; and the event that had last taken it out of a slot, where one had. Without DRAW every draw that waited
+      has such a line, the longest wait first. WHAT is a load list or a plan's name, as for `govahrin timeline`.
+TEXT
+}
+
 help_timeline() {
     cat <<'TEXT'
   govahrin timeline SHEET.job [WHAT] [--rounds R] [--text] [--from TICK] [--to TICK] [--names FILE] [-o FILE]
@@ -92,7 +101,7 @@ TEXT
 help_on() { # [VERB]
     out=''
     case ${1-} in
-    summary | plan | check | timeline | text | list | job | show | demo) surely_into answer help_verb "$1" ;;
+    summary | plan | check | why | timeline | text | list | job | show | demo) surely_into answer help_verb "$1" ;;
     '') surely_into answer help_all ;;
     *) fail "there is no verb $(shown "$1") (govahrin help names them)" ;;
     esac
@@ -107,7 +116,7 @@ help_verb() { # VERB
 help_all() {
     echo "govahrin: plan and check the symbol loads of a bridge display"
     echo
-    for verb_of_help in summary plan check timeline text list job show demo; do "help_$verb_of_help"; done
+    for verb_of_help in summary plan check why timeline text list job show demo; do "help_$verb_of_help"; done
     printf '  govahrin help [VERB], govahrin VERB --help\n      This text, or the part on a verb.\n'
     printf '  govahrin --version\n      The version, the commit, the kit that the library is proved with.\n'
     help_common

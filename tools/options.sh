@@ -36,7 +36,7 @@ take_option() { # OPTION VALUE
     --names) names=$2 ;;
     --from) FROM=$(tick_of "$1" "$2") || { ending=2; exit 2; } ;;
     --to) TO=$(tick_of "$1" "$2") || { ending=2; exit 2; } ;;
-    --rounds) ROUNDS=$(rounds_of "$1" "$2") || { ending=2; exit 2; } ;;
+    --rounds) ROUNDS=$(number_of "--rounds takes a number of rounds" "$2") || { ending=2; exit 2; } ;;
     esac
 }
 
@@ -51,9 +51,9 @@ tick_of() { # OPTION VALUE
 plain() { printf '%s' "$1" | sed 's/^0*\(.\)/\1/'; } # DIGITS
 
 # A number of 32 bits without leading zeros, as the programs take it. Which of these numbers is refused is theirs to say.
-rounds_of() { # OPTION VALUE
-    case $2 in *[!0-9]*) ;; *) digits=$(plain "$2"); ! fits "$digits" || { printf '%s' "$digits"; return; } ;; esac
-    say "$1 takes a number of rounds, a decimal number of at most 4294967295, not $(shown "$2")"
+number_of() { # WHAT-IS-TAKEN VALUE
+    case $2 in '' | *[!0-9]*) ;; *) digits=$(plain "$2"); ! fits "$digits" || { printf '%s' "$digits"; return; } ;; esac
+    say "$1, a decimal number of at most 4294967295, not $(shown "$2")"
     return 1
 }
 

@@ -6,8 +6,8 @@ else
     programs=$root/target/bin remedy="remove it, and it is made anew"
 fi
 
-need_programs() {
-    [ "$programs" = "$root/programs" ] || "$root/tools/make_programs" || { ending=2; exit 2; }
+need_programs() { # [PROGRAMS beside those that most verbs need]
+    [ "$programs" = "$root/programs" ] || "$root/tools/make_programs" "$@" || { ending=2; exit 2; }
 }
 
 # A program's table of sections is written last: where it lies within the file and ends it, the file is whole. A shell would run what
@@ -62,6 +62,20 @@ judge() { # JOB LIST [ROUNDS]
     ask said check_sheet "$scratch/$1" "$scratch/$2" "${3:-$ROUNDS}"
     believe said check "$(draws_of "$1" "${3:-$ROUNDS}")"
     [ -z "$why" ] || not_in_full
+}
+
+# Asks why the draw DRAW of the accepted list waited or, where DRAW is empty, every draw that did; leaves the lines at
+# $scratch/told. Of the refusals only the last is left: there is no such draw.
+account_for() { # DRAWS
+    ask told why_sheet "$scratch/sheet.job" "$scratch/sheet.list" "$ROUNDS" ${DRAW:+"$DRAW"}
+    believe told why "$1"
+    [ -z "$why" ] || not_in_full
+    [ "$verdict" = refused ] || return 0
+    [ "$number $detail" = "18 0" ] && [ -n "$DRAW" ] && [ "$DRAW" -ge "$1" ] ||
+        fail "the programs why_sheet and check_sheet differ: refused $number $detail"
+    surely_into said cat "$scratch/told"
+    explain job list
+    say_refused answer
 }
 
 # Plans $scratch/sheet.job; leaves the list at $scratch/sheet.list. A refusal is its line on standard error, and no list.

@@ -1,7 +1,5 @@
 # What a refusal is about, in one line: the event with its tick, slot and symbol, or the draw with its symbol, and what is in its
-# way; or the rounds with their draws. It says nothing of a refusal that is about none of these.
-
-function symbolOf(symbol) { return "symbol " symbol (symbol in nameOf ? ", " nameOf[symbol] : "") }
+# way; or the rounds with their draws, also of a draw that they have not. It says nothing of a refusal that is about none of these.
 
 # A tick in digits. In a text it may have more of them than an awk's number has; of a list's great number an awk may make an exponent.
 function digitsOf(tick) { return tick ~ /^[0-9]+$/ ? tick "" : sprintf("%.0f", tick) }
@@ -44,6 +42,14 @@ function tooMany() {
         rounds * inRound)
 }
 
+# A draw's number may have more digits than an awk prints of a number.
+function noDraw(   all) {
+    all = inRound * rounds
+    if (!all) return "the sheet has no draws"
+    if (rounds > 1) return rounds " rounds of " inRound " draw" (inRound == 1 ? "" : "s") " are " all " draws, 0 to " all - 1
+    return all == 1 ? "the sheet has 1 draw, draw 0" : "the sheet has " all " draws, 0 to " all - 1
+}
+
 function takenOut(symbol) {
     slotHolding(symbol, events)
     if (takenBy < 0) return "it is in no slot at the start, and no event loads it"
@@ -59,4 +65,5 @@ END {
     if (refusal == 13) print drawOf(detail) takenOut(drawn[detail])
     if (refusal == 14) print eventOf(detail) "all " draws " draws are done by then"
     if (refusal == 17) print tooMany()
+    if (refusal == 18) print "draw " ENVIRON["DRAW"] ": " noDraw()
 }

@@ -1,6 +1,7 @@
 # Reads what the front end hands to its awk programs, in parts on standard input. A line `part NAME` begins each part:
 #   job, list   the file's bytes in decimal      names   a line a symbol: its number, a tab, its name
 #   run         `accepted ELAPSED WAITS LOADS LONGEST` and a line a draw, from check_sheet; of a refused list the draws before its refusal
+#   told        `explained` and a line a draw, from why_sheet
 #   refused     the number and the detail of a refusal
 #   lines       a load list as text, in place of the part list: eventTick[], eventSlot[] and eventSymbol[] as they stand there
 # After readSheet() the job is slots, loadTime, draws, starting[] and drawn[], the list eventTick[], eventSlot[] and eventSymbol[]
@@ -17,6 +18,11 @@ part == "refused" { refusal = $1 + 0; detail = $2 + 0; next }
 part == "lines" { eventTick[textLines] = $1; eventSlot[textLines] = $2; eventSymbol[textLines++] = $3; next }
 part == "run" && $1 == "accepted" { elapsed = $2 + 0; waits = $3 + 0; loads = $4 + 0; longest = $5 + 0; next }
 part == "run" { drawSymbol[made] = $2 + 0; drawTick[made] = $3 + 0; drawSlot[made++] = $4 + 0 }
+
+function stop(line) {
+    print line > "/dev/stderr"
+    exit 2
+}
 
 function least(a, b) { return a < b ? a : b }
 function most(a, b) { return a > b ? a : b }
@@ -52,5 +58,12 @@ function readSheet(   i, at) {
 # A draw's number counts through the rounds, so it is told which draw of its round it is.
 function inRoundWords(draw) { return rounds == 1 ? "" : "draw " draw % inRound " of round " int(draw / inRound) ", " }
 
+# What the run draws must be what the sheet draws, through all rounds.
+function holdSymbols(   draw) {
+    for (draw = 0; draw < made; draw++) if (drawSymbol[draw] != drawn[draw])
+        stop("the run draws symbol " drawSymbol[draw] " as draw " draw ", and the sheet symbol " drawn[draw])
+}
+
 # A symbol as a person reads it: its number, and its name where one is known.
 function symbolWords(symbol) { return symbol in nameOf ? symbol " (" nameOf[symbol] ")" : symbol "" }
+function symbolOf(symbol) { return "symbol " symbol (symbol in nameOf ? ", " nameOf[symbol] : "") }

@@ -5,11 +5,6 @@
 #   The longest single wait, the first where several are as long, is from tick pauseFrom until pauseUntil; none where both are 0.
 #   round 0 to lastRound: each begins at tick roundFrom[]. Of a sheet that is drawn once none is told, and lastRound is -1.
 
-function stop(line) {
-    print line > "/dev/stderr"
-    exit 2
-}
-
 function countOf(count, thing) { return count " " thing (count == 1 ? "" : "s") }
 
 # How many events begin, how many ticks the run has, and the tick of a refusal, which is -1 where there is none. Refusal 14
@@ -126,12 +121,6 @@ function reckonRounds(   draw) {
 }
 
 function showsRound(i) { return roundFrom[i] >= first && roundFrom[i] < until }
-
-# What the run draws must be what the sheet draws, through all rounds.
-function holdSymbols(   draw) {
-    for (draw = 0; draw < made; draw++) if (drawSymbol[draw] != drawn[draw])
-        stop("the run draws symbol " drawSymbol[draw] " as draw " draw ", and the sheet symbol " drawn[draw])
-}
 
 # Whether any of it is shown.
 function showsLongest() { return pauseUntil > first && pauseFrom < until && pauseFrom < pauseUntil }
