@@ -128,8 +128,8 @@ END {
         repeats, repeats / 4
     print "for one call, the median. The aim is a ratio of at most 1.2; a ratio above it is bold."
     print "\nThe machine: " told["processor"] ", " told["cores"] (told["cores"] == 1 ? " core" : " cores") \
-        (told["emulated"] == "" ? "." : "; of the kind " told["emulated"] ", so all ran under the kit's emulator.")
-    print "The kit: " told["kit"] ". The library is as `rt staticlib` makes it; the plain program is compiled by"
+        (told["emulated"] == "" ? "." : "; of the kind " told["emulated"] ", so all ran under an emulator.")
+    print "The kit: " told["kit"] ". The library is as `rt lib` makes it; the plain program is compiled by"
     print "`tests/machine compile` with `" told["flags"] " " told["placed"] "`."
     print "\n![Ratios and growth](RESULTS.svg)"
 

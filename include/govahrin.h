@@ -10,7 +10,7 @@
 
        cc host.c $(pkg-config --cflags --libs govahrin)
 
-   or -lgovahrin. In the source tree `tools/install PREFIX` installs it, and `rt staticlib govahrin` makes it as
+   or -lgovahrin. In the source tree `tools/install PREFIX` installs it, and `tools/machine archive` makes it as
    target/staticlib/libgovahrin.a.
 
    THE JOB. Numbers are big-endian.
