@@ -31,7 +31,7 @@ function flush() {
     theorems++
     table = table "\npart_" theorems " : map found (" substr(rows, 5) "[]) ≡ map expected (" substr(rows, 5) "[])\n" \
         "unfolding planned checked run tick beginning happened place symbols times_over doubled missing ranks_from greatest events_in events_bytes\n" \
-        "    due first_bad_tick first_of digits_of text_of digit_count number_from read_line read_lines write_tests read_tests\n" \
+        "    due first_bad_tick first_of digits_of text_of digit_count number_from read_line read_lines write_tests read_tests told\n" \
         "part_" theorems " = refl\n"
     rows = ""
     held = 0
@@ -58,6 +58,31 @@ $1 == "check" && $10 <= most {
     if (++held == 4) flush()
 }
 
+# The tick of event i of a list in hexadecimal.
+function tick(hex, i,   from, n, value) {
+    from = 15 + 14 * i
+    value = 0
+    for (n = 0; n < 8; n++) value = value * 16 + digit(substr(hex, from + n, 1))
+    return value
+}
+
+# Whether no event of a list has a tick above the greatest.
+function early(hex,   i) {
+    for (i = 0; 14 * (i + 2) <= length(hex); i++) if (tick(hex, i) > most) return 0
+    return 1
+}
+
+# An event, or the number that stands for none; of a refusal both numbers are 0.
+function event(text) { return text == "-" ? 0 : text == "start" || text == "none" ? "4294967295" : text }
+
+$1 == "why" && early($3) {
+    rounds($5, "reason " bytes($2) " " bytes($3) " " $4, \
+        numbers($7 "," $8 "," event($9) "," event($10) "," $11 "," $12 "," $13))
+    seen[$7]++
+    used++
+    if (++held == 8) flush()
+}
+
 function size(hex) { return hex == "-" ? 0 : length(hex) / 2 }
 
 # The answer has no size in a vector: it is that of the bytes written, and 0 where there are none.
@@ -80,12 +105,13 @@ END {
     print "use Rattle.rules.specs.Display.{run, tick, beginning, happened}"
     print "use Rattle.rules.specs.Plans.{missing, ranks_from, greatest}"
     print "use Rattle.rules.specs.Refusals.{checked, planned, due, first_bad_tick, doubled}"
+    print "use Rattle.rules.specs.Why.{told}"
     print "use Rattle.rules.specs.Text.{digits_of, text_of, digit_count, number_from, read_line, read_lines, write_tests, read_tests}"
-    print "use Rattle.rules.specs.Worked.{Row, row, plan, list, check, ticks, slots, text_written, text_read, in_rounds_asked, found, expected}"
+    print "use Rattle.rules.specs.Worked.{Row, row, plan, list, check, ticks, slots, text_written, text_read, reason, in_rounds_asked, found, expected}"
     print table
     line = "tests/definitions: " used " vectors; plans accepted:"
     for (p = 0; p <= 3; p++) line = line " " p " x" plans[p] + 0
     line = line "; by number:"
-    for (n = 0; n <= 17; n++) if (seen[n]) line = line " " n " x" seen[n]
+    for (n = 0; n <= 18; n++) if (seen[n]) line = line " " n " x" seen[n]
     print line > report
 }
