@@ -8,6 +8,7 @@ use lib.Dec.{ltb}
 use borrow.Author.Tests.{ltb-false}
 use Rattle.rules.specs.declared.CallReading.{CallReading}
 use Rattle.rules.specs.declared.CallReading.TheVariants.{Taken}
+use Rattle.rules.specs.declared.ListReading.{ListReading}
 use Rattle.rules.specs.declared.ListReading.TheVariants.{Listed}
 use Rattle.rules.specs.declared.Unrolled.{Unrolled}
 use Rattle.rules.specs.Order.{Test, test, Verdict, clear, met, first_of}
@@ -17,7 +18,7 @@ use Rattle.rules.specs.Display.{Run, refused}
 use Rattle.rules.specs.Refusals.{call_tests, read_call, bad_list, read_list, short_check, follows, check_tests, checked, answer_of, ticks_of, slots_of, lent}
 use Rattle.laws.specs.Limits.{Limits}
 use Rattle.laws.proofs.Cases.{neither}
-use Rattle.laws.proofs.Verdicts.{Gives}
+use Rattle.laws.proofs.Verdicts.{Gives, gives}
 use Rattle.laws.proofs.Jobs.{limits, past_call, same_call}
 use Rattle.laws.proofs.Checks.{checked_met, checked_past}
 use Rattle.sheet.proofs.Lists.{is_sized, past_list, same_events}
@@ -47,23 +48,34 @@ module _ (asked : Call) (list ticks slots : List ℕ) (r : Checked) where
   run = checked asked list (length ticks) (length slots)
 
   -- A check that is refused hands out nothing.
-  pub refuses : (n d : ℕ) → r ≡ record { answer = answer_of (refused n d); draws = 0 }
+  pub refuses_met : (n d : ℕ) → r ≡ record { answer = answer_of (refused n d); draws = 0 }
       → first_of (check_tests asked list (length ticks) (length slots)) ≡ met n d → Promised run r ticks ticks slots slots
-  refuses n d answers stops =
+  refuses_met n d answers stops =
       let is : run ≡ refused n d = checked_met asked list (length ticks) (length slots) n d stops in
       rw (answers, is) (refl, (refl, (refl, refl)))
 
+  pub refuses : (n d : ℕ) → r ≡ record { answer = answer_of (refused n d); draws = 0 }
+      → Gives (check_tests asked list (length ticks) (length slots)) (met n d) → Promised run r ticks ticks slots slots
+  refuses n d answers g = refuses_met n d answers (gives _ _ g)
+
   -- Past all tests it hands out what its run does.
-  pub hands_out : (shape : Unrolled) (count : ℕ) (ticks' slots' : List ℕ) → read_call asked ≡ Taken shape → read_list list ≡ Listed count
+  pub hands_out_read : (shape : Unrolled) (count : ℕ) (ticks' slots' : List ℕ) → read_call asked ≡ Taken shape → read_list list ≡ Listed count
       → HandedOut (follows (job_of (call asked.job shape.rounds)) (events_in count (drop head_size list))) r ticks ticks' slots slots'
       → first_of (check_tests asked list (length ticks) (length slots)) ≡ clear → Promised run r ticks ticks' slots slots'
-  hands_out shape count ticks' slots' taken read handed past =
+  hands_out_read shape count ticks' slots' taken read handed past =
       let rounds : Call = call asked.job shape.rounds in
       let same : run ≡ follows (job_of rounds) (events_in count (drop head_size list)) =
       checked_past asked list (length ticks) (length slots) past
       ∙ ap (λ (a : Call). follows (job_of a) (events_of list)) (same_call asked shape taken)
       ∙ ap (follows (job_of rounds)) (same_events list (read_list list) count refl read) in
       rw same (handed.answers, (handed.many, (handed.at, handed.from)))
+
+  pub hands_out : (reading : CallReading) (head : ListReading) (shape : Unrolled) (count : ℕ) (ticks' slots' : List ℕ)
+      → reading ≡ read_call asked → reading ≡ Taken shape → head ≡ read_list list → head ≡ Listed count
+      → HandedOut (follows (job_of (call asked.job shape.rounds)) (events_in count (drop head_size list))) r ticks ticks' slots slots'
+      → Gives (check_tests asked list (length ticks) (length slots)) clear → Promised run r ticks ticks' slots slots'
+  hands_out reading head shape count ticks' slots' is taken is' read handed g =
+      hands_out_read shape count ticks' slots' (sym is ∙ taken) (sym is' ∙ read) handed (gives _ _ g)
 
 -- What the run asks for is known once both were read.
 pub both_read : (asked : Call) (list : List ℕ) (shape : Unrolled) (count : ℕ) → read_call asked ≡ Taken shape → read_list list ≡ Listed count
@@ -75,13 +87,21 @@ both_read asked list shape count taken read =
     }
 
 -- So it is past the tests.
-pub roomy : (asked : Call) (list : List ℕ) (shape : Unrolled) (count : ℕ) (ticks slots : List ℕ) (r : Bool)
+pub roomy_read : (asked : Call) (list : List ℕ) (shape : Unrolled) (count : ℕ) (ticks slots : List ℕ) (r : Bool)
     → read_call asked ≡ Taken shape → read_list list ≡ Listed count
     → r ≡ (ltb (length ticks) shape.draws || ltb (length slots) shape.draws) → r ≡ false
     → HasRoom (call asked.job shape.rounds) list shape count ticks slots
-roomy asked list shape count ticks slots r taken read tested fails =
+roomy_read asked list shape count ticks slots r taken read tested fails =
     let (tick_room, slot_room) = neither (ltb (length ticks) shape.draws) (ltb (length slots) shape.draws) (sym tested ∙ fails) in
     record { read = both_read asked list shape count taken read; tick_room = ltb-false _ _ tick_room; slot_room = ltb-false _ _ slot_room }
+
+pub roomy : (job list : List ℕ) (rounds : ℕ) (reading : CallReading) (head : ListReading) (shape : Unrolled) (count : ℕ) (ticks slots : List ℕ)
+    (r : Bool)
+    → reading ≡ read_call (call job rounds) → reading ≡ Taken shape → head ≡ read_list list → head ≡ Listed count
+    → r ≡ (ltb (length ticks) shape.draws || ltb (length slots) shape.draws) → r ≡ false
+    → HasRoom (call job shape.rounds) list shape count ticks slots
+roomy job list rounds reading head shape count ticks slots r is taken is' read tested fails =
+    roomy_read (call job rounds) list shape count ticks slots r (sym is ∙ taken) (sym is' ∙ read) tested fails
 
 -- Once both were read, the tests after those of the job and of the list decide.
 pub past_both : (asked : Call) (list : List ℕ) (shape : Unrolled) (count : ℕ) {later : List Test} {v : Verdict} → read_call asked ≡ Taken shape

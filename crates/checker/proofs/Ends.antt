@@ -9,9 +9,9 @@ use lib.Dec.{ltb}
 use borrow.Author.Tests.{lt-ltb, le-ltb, ne_eqb}
 use Rattle.rules.specs.declared.Answer.{Answer}
 use Rattle.rules.specs.declared.Unrolled.{Unrolled}
-use Rattle.rules.specs.Job.{Job, Call, shape_of, starting_symbols, job_of}
+use Rattle.rules.specs.Job.{Job, Call, shape_of, starting_symbols, job_of, most_load_time, most_draws}
 use Rattle.rules.specs.LoadList.{Event}
-use Rattle.rules.specs.Display.{State, Run, going, refused, then, finished, tick, run}
+use Rattle.rules.specs.Display.{State, Run, going, refused, then, start, finished, tick, run}
 use Rattle.rules.specs.Refusals.{answer_of, tick_of, slot_of, closing, follow, follows, most_ticks}
 use Rattle.laws.specs.Limits.{Limits}
 use Rattle.laws.proofs.Cases.{by_test}
@@ -21,11 +21,11 @@ use Rattle.display.specs.declared.state.Display.{Display}
 use Rattle.display.specs.declared.tick.Ticked.{Ticked}
 use Rattle.display.specs.View.{History, at_first, view}
 use Rattle.display.specs.Moves.{started}
-use Rattle.display.specs.Tick.{Ticks, Recorded, OnRecord}
+use Rattle.display.specs.Tick.{Room, Ticks, Recorded, OnRecord}
 use Rattle.display.proofs.Views.{starts_so}
-use Rattle.display.proofs.Going.{rest_done, rest_more}
+use Rattle.display.proofs.Going.{rest_done, rest_more, going_over, going_done, going_late, going_more, going_room, going_refused}
 use Rattle.checker.specs.declared.checked.Checked.{Checked}
-use Rattle.checker.specs.Follow.{Ended}
+use Rattle.checker.specs.Follow.{Ended, Noted}
 use Rattle.checker.specs.Turn.{Closes, EndsAt}
 use Rattle.checker.proofs.Walks.{Walking, walking_start}
 
@@ -154,3 +154,47 @@ pub closed : (job : Job) (events : List Event) (held : List ℕ) (d : Display) (
     → Closes (length job.draws) (follows job events) h r ticks slots
 closed job events held d ticks slots h w r ends =
     rw (ap (λ (x : Run). then x (closing events)) w.along.whole) at (ends h ticks slots w.along.rest w.along.few w.at w.from)
+
+-- The ways out of a run along its whole list, each with its answer.
+module _ (job : Job) (events : List Event) (held : List ℕ) (d : Display) (ticks slots : List ℕ) (h : History)
+    (w : Walking job events held d ticks slots h) where
+  closes : (r : Run) → run job (follow events) (most_ticks job) (start job) ≡ r → follows job events ≡ then r (closing events)
+  closes r e = ap (λ (x : Run). then x (closing events)) e
+
+  pub shown_out : (count : ℕ) (r : Checked) → length job.draws ≤ d.next → length events ≡ count → Ended count d r
+      → Noted (length job.draws) (follows job events) r ticks slots
+  shown_out count r over size finish =
+      rw (closes (going (view held h d)) (going_over job (follow events) (most_ticks job) held d h w.along over))
+      (finish.shows held (length job.draws) h events ticks slots size
+      (going_done job (follow events) (most_ticks job) held d h w.along over) w.along.few w.at w.from)
+
+  -- A refused run has nothing noted.
+  refused_noted : (number detail : ℕ) (r : Checked) → follows job events ≡ refused number detail
+      → r ≡ record { answer = answer_of (refused number detail); draws = 0 } → Noted (length job.draws) (follows job events) r ticks slots
+  refused_noted number detail r ends is = rw is (record { answers = rw ends; few = omega arith; at = rw ends; from = rw ends })
+
+  pub shown_up : (r : Checked) → d.next < length job.draws → most_ticks job ≤ d.tick
+      → r ≡ record { answer = answer_of (refused 13 d.next); draws = 0 } → Noted (length job.draws) (follows job events) r ticks slots
+  shown_up r within late is =
+      refused_noted 13 d.next r
+      (closes (going (view held h d)) (going_late job (follow events) (most_ticks job) held d h w.along late)
+      ∙ rw (going_more job (follow events) (most_ticks job) held d h w.along within))
+      is
+
+  pub shown_refused : d.next < length job.draws
+      → d.tick < most_ticks job
+      → (held' : List ℕ) (t : Ticked) (r : Checked)
+      → Ticks job (follow events) held held' d t
+      → (t.number ≡ 0 → ⊥)
+      → r ≡ record { answer = answer_of (refused t.number t.detail); draws = 0 }
+      → Noted (length job.draws) (follows job events) r ticks slots
+  shown_refused within early held' t r ticked some is =
+      refused_noted t.number t.detail r
+      (closes (refused t.number t.detail)
+      (going_refused job (follow events) (most_ticks job) held d h w.along within early held' t ticked some))
+      is
+
+  -- The counters have room for a tick more.
+  pub walking_room : job.load_time ≤ most_load_time → length job.draws ≤ most_draws → d.tick < most_ticks job
+      → Room d × (d.loads < 4294967295)
+  walking_room short few early = going_room job (follow events) (most_ticks job) held d h w.along early (omega arith) (omega arith)

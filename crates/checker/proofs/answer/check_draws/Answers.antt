@@ -3,13 +3,13 @@ use Rattle.std.proofs.Common.{refl, length}
 use Rattle.rules.specs.Job.{call}
 use Rattle.laws.proofs.Verdicts.{gives, end, stop, step}
 use Rattle.sheet.proofs.Lists.{at_order, past_order}
-use Rattle.checker.proofs.Answers.{room_test_lem, past_both, refuses, hands_out, roomy}
+use Rattle.checker.proofs.Answers.{room_test_lem, past_both, refuses_met, hands_out_read, roomy_read}
 use Rattle.checker.proofs.answer.check_draws.Goals as goal
 
 pub returns-in-Shut : goal.returns-in-Shut
 returns-in-Shut c =
     let (answer, (draws, (ticks, slots))) =
-    refuses _ _ _ _ _ c.in-Shut.number 0 c.refuse.ensures (c.in-Shut.ensures (length c.args.ticks.now) (length c.args.slots.now)) in
+    refuses_met _ _ _ _ _ c.in-Shut.number 0 c.refuse.ensures (c.in-Shut.ensures (length c.args.ticks.now) (length c.args.slots.now)) in
     record { answer = answer; draws = draws; ticks = ticks; slots = slots }
 
 pub returns-then-short_room : goal.returns-then-short_room
@@ -18,7 +18,7 @@ returns-then-short_room c =
     let asked = call a.job.now a.rounds in
     let (taken, read) = c.in-Open.ensures in
     let (answer, (draws, (ticks, slots))) =
-    refuses _ _ _ _ _ 7 0 c.refuse-then-short_room.ensures
+    refuses_met _ _ _ _ _ 7 0 c.refuse-then-short_room.ensures
     (gives _ _
     (past_both asked a.list.now c.in-Open.shape c.in-Open.count taken read
     (stop c.short_room.result
@@ -32,7 +32,7 @@ returns-then-first-count c =
     let asked = call a.job.now a.rounds in
     let (taken, read) = c.in-Open.ensures in
     let (answer, (draws, (ticks, slots))) =
-    refuses _ _ _ _ _ 9 c.first_bad_tick-first.result c.refuse-then-first-count.ensures
+    refuses_met _ _ _ _ _ 9 c.first_bad_tick-first.result c.refuse-then-first-count.ensures
     (gives _ _
     (past_both asked a.list.now c.in-Open.shape c.in-Open.count taken read
     (step c.short_room.result
@@ -44,7 +44,7 @@ returns-then-first-count c =
 pub hand_out-requires : goal.hand_out-requires
 hand_out-requires c =
     let (taken, read) = c.in-Open.ensures in
-    roomy (call c.args.job.now c.args.rounds) c.args.list.now _ _ _ _ c.short_room.result taken read c.short_room.ensures c.if-short_room.false
+    roomy_read (call c.args.job.now c.args.rounds) c.args.list.now _ _ _ _ c.short_room.result taken read c.short_room.ensures c.if-short_room.false
 
 pub returns-else-first-count : goal.returns-else-first-count
 returns-else-first-count c =
@@ -52,7 +52,7 @@ returns-else-first-count c =
     let asked = call a.job.now a.rounds in
     let (taken, read) = c.in-Open.ensures in
     let (answer, (draws, (ticks, slots))) =
-    hands_out _ _ _ _ _ c.in-Open.shape c.in-Open.count _ _ taken read c.hand_out.ensures
+    hands_out_read _ _ _ _ _ c.in-Open.shape c.in-Open.count _ _ taken read c.hand_out.ensures
     (gives _ _
     (past_both asked a.list.now c.in-Open.shape c.in-Open.count taken read
     (step c.short_room.result
