@@ -8,7 +8,7 @@ ghost use Rattle.display.specs.Moves.{moved_on, drawn_or_waited};
 ghost use Rattle.display.specs.Tick.{Room, CanMove, asked_refusal, refused_load};
 
 use crate::search::slot_of;
-use crate::state::{Display, draw, wait};
+use crate::state::Display;
 use rules::{Cause, FREE, Happening, MaybeLoad, TickRecord};
 
 // What came of a tick: the number and detail of its refusal, or number 0, the tick's record, and the display after it.
@@ -38,10 +38,7 @@ fn beyond(slots: &[u16], slot: u8) -> bool
 fn held_or_none(slots: &[u16], symbol: u16) -> bool
     ensures { result ≡ (eqb symbol free || stands symbol slots.now) }
 {
-    if symbol == FREE {
-        return true;
-    }
-    slot_of(slots, symbol) < slots.len()
+    symbol == FREE || slot_of(slots, symbol) < slots.len()
 }
 
 // The first refusal of 10 to 12 that a load which is asked for meets; 0 where it meets none or none is asked for.
@@ -105,14 +102,7 @@ fn happening_of(slots: &[u16], d: Display, symbol: u16) -> Happening
 fn is_stuck(happening: Happening, done: bool) -> bool
     ensures { result ≡ stuck happening done }
 {
-    match happening {
-        Happening::Draw { slot: _ } => false,
-        Happening::Wait(cause) => match cause {
-            Cause::Awaited => false,
-            Cause::Another => false,
-            Cause::Nothing => done,
-        },
-    }
+    done && matches!(happening, Happening::Wait(Cause::Nothing))
 }
 
 fn move_on(d: Display, happening: Happening) -> Display
@@ -120,8 +110,8 @@ fn move_on(d: Display, happening: Happening) -> Display
     ensures { result ≡ moved_on happening d }
 {
     match happening {
-        Happening::Draw { slot: _ } => draw(d),
-        Happening::Wait(_) => wait(d),
+        Happening::Draw { .. } => d.draw(),
+        Happening::Wait(_) => d.wait(),
     }
 }
 
