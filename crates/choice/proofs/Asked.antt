@@ -18,8 +18,9 @@ use Rattle.rules.specs.Display.{State, idle, awaited}
 use Rattle.rules.specs.Plans.{rank, furthest, behind, both_ways, missing, aggressive, on_demand, opt_slot, opt, lru, earliest_at}
 use Rattle.choice.specs.declared.ask.Order.{Order}
 use Rattle.choice.specs.declared.ask.Order.TheVariants.{Due, Nothing}
-use Rattle.choice.specs.Ranks.{facing}
+use Rattle.choice.specs.Ranks.{Ranks, Greatest, facing}
 use Rattle.choice.specs.Asks.{Quiet, Seen, OnDemand, order_asks, asks_by}
+use Rattle.choice.proofs.Ranking.{chosen_by, led}
 
 -- The parts of a state that a plan looks at, put in one by one.
 ap3 : {A B C D : Type 0} (f : A → B → C → D) {a a' : A} {b b' : B} {c c' : C} → a ≡ a' → b ≡ b' → c ≡ c'
@@ -47,20 +48,28 @@ module _ (job : Job) (s : State) (slots rest : List ℕ) (still : Quiet job s sl
     unfolding aggressive_from
     aggressive_none over = sym (aggressive_from_lem ∙ rw (← first, le-ltb p (length rest) over))
 
-    module _ (within : p < length rest) (q : ℕ) (chosen : q ≡ furthest job rest slots) where
-      pub aggressive_soon : rank rest (get_or slots q 0) < p → NoLoad ≡ (aggressive job).asks s
+    -- A slot is chosen by its rank, which is one more than the place at which its symbol comes up.
+    module _ (within : p < length rest) (ranks : List ℕ) (ranked : Ranks slots rest ranks) (q : ℕ)
+        (chosen : Greatest (take (length slots) ranks) q) where
+      is_furthest : q ≡ furthest job rest slots
+      is_furthest = (chosen_by slots rest ranks ranked q chosen).slot job still.many
+
+      own_rank : get_or ranks q 0 ≡ suc (rank rest (get_or slots q 0))
+      own_rank = (led slots rest ranks ranked q chosen).own
+
+      pub aggressive_soon : get_or ranks q 0 ≤ p → NoLoad ≡ (aggressive job).asks s
       unfolding aggressive_from
       aggressive_soon before =
           sym
           (aggressive_from_lem
-          ∙ rw (← first, ← chosen, lt-ltb p (length rest) within, lt-leb p (rank rest (get_or slots q 0)) before))
+          ∙ rw (← first, ← is_furthest, lt-ltb p (length rest) within, lt-leb p (rank rest (get_or slots q 0)) (omega (arith, own_rank))))
 
-      pub aggressive_far : p ≤ rank rest (get_or slots q 0) → Load q (get_or rest p 0) ≡ (aggressive job).asks s
+      pub aggressive_far : p < get_or ranks q 0 → Load q (get_or rest p 0) ≡ (aggressive job).asks s
       unfolding aggressive_from
       aggressive_far far =
           sym
           (aggressive_from_lem
-          ∙ rw (← first, ← chosen, lt-ltb p (length rest) within, le-leb p (rank rest (get_or slots q 0)) far))
+          ∙ rw (← first, ← is_furthest, lt-ltb p (length rest) within, le-leb p (rank rest (get_or slots q 0)) (omega (arith, own_rank))))
 
 -- ---- On demand
 

@@ -7,8 +7,8 @@ ghost use Rattle.choice.specs.Ranks.{WithinLimits, WithinBoth, facing};
 ghost use Rattle.choice.specs.Asks.{CanAsk, MayAsk, Quiet, Seen, asks_by, OnDemand, Earliest, Asked};
 
 use crate::ranks::{first_greatest, free_first, oldest, ranks_of};
-use crate::search::{missing, next_draw};
-use display::{Display, slot_of};
+use crate::search::{missing, next_draw, served};
+use display::Display;
 use rules::MaybeLoad;
 
 // The load of opt that conservative has yet to begin: the draw that missed, the slot and the symbol.
@@ -45,7 +45,7 @@ fn ask_on_demand(slots: &[u16], rest: &[u16], made: &[u16], back: bool, symbol: 
     requires { WithinBoth slots.now rest.now made.now }
     ensures { OnDemand slots.now (facing back rest.now made.now) symbol result }
 {
-    if slot_of(slots, symbol) < slots.len() {
+    if served(slots, symbol) {
         return MaybeLoad::NoLoad;
     }
     if back {
@@ -64,8 +64,7 @@ fn ask_on_demand(slots: &[u16], rest: &[u16], made: &[u16], back: bool, symbol: 
 fn content_of(slots: &[u16], slot: u8) -> u16
     ensures { result ≡ get_or slots.now slot 0 }
 {
-    let at = slot as usize;
-    if at < slots.len() { slots[at] } else { 0 }
+    slots.get(slot as usize).copied().unwrap_or(0)
 }
 
 // Plan 1: opt's load, as soon as what goes out is not drawn again before the draw that missed.
