@@ -20,7 +20,8 @@ use Rattle.rules.specs.declared.Account.{Account}
 use Rattle.rules.specs.Basics.{place, stands}
 use Rattle.rules.specs.Job.{Job}
 use Rattle.rules.specs.declared.Event.{Event}
-use Rattle.rules.specs.Display.{State, Rule, going, land, begun_by, beginning, awaited, cause_of, happening_of, wait, moved, record_of, record_at, finished, tick}
+use Rattle.rules.specs.Display.{State, Rule, going, land, begun_by, beginning, awaited, cause_of, happening_of, wait, moved, record_of, record_at}
+use Rattle.rules.specs.Display.{finished, tick}
 use Rattle.rules.specs.Refusals.{due, follow, most_ticks}
 use Rattle.rules.specs.Why.{brought_in, taken_in, more_waits, waits_in, tick_told, told}
 use Rattle.laws.proofs.Cases.{by_test, both_held}

@@ -52,7 +52,8 @@ unfolding last_load
 last_in q t u y [] e = let z : ◌≡◌ {A = ℕ} 0 1 = cc in absurd (omega arith)
 last_in q t u y (this ∷ l) e = by_load (last_load q t l) refl e (last_in q t u y l)
   where
-    by_load : (later : LastLoad) → last_load q t l ≡ later → or_else later (cond (eqb this.slot q && leb this.tick t) (last this.tick this.symbol) none) ≡ last u y
+    by_load : (later : LastLoad) → last_load q t l ≡ later
+        → or_else later (cond (eqb this.slot q && leb this.tick t) (last this.tick this.symbol) none) ≡ last u y
         → (last_load q t l ≡ last u y → (j : ℕ) × (j < length l) × (nth_event l j ≡ event u q y))
         → (j : ℕ) × (j < suc (length l)) × (nth_event (this ∷ l) j ≡ event u q y)
     by_load none is same in_rest =

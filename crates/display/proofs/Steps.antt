@@ -14,7 +14,8 @@ use Rattle.rules.specs.declared.TickRecord.{TickRecord}
 use Rattle.rules.specs.Basics.{stands}
 use Rattle.rules.specs.Job.{Job}
 use Rattle.rules.specs.Order.{Verdict}
-use Rattle.rules.specs.Display.{State, Run, Rule, drawn, going, refused, unless, then, begin, begun_by, beginning, happening_of, happened, record_of, record_at, stuck, tick}
+use Rattle.rules.specs.Display.{State, Run, Rule, drawn, going, refused, unless, then, begin, begun_by, beginning, happening_of, happened, record_of}
+use Rattle.rules.specs.Display.{record_at, stuck, tick}
 use Rattle.laws.proofs.Cases.{by_test}
 use Rattle.laws.proofs.Moves.{load_clear, load_met}
 use Rattle.display.specs.declared.state.Display.{Display}
@@ -49,7 +50,8 @@ late_done : (job : Job) (asked : Option Load) (s : State) (done : Bool) (ends : 
     ≡ happened (happening_of (begun_by job asked s)) (ends (begun_by job asked s)) (begun_by job asked s)
 unfolding happened
 late_done job None s done ends e = rw e
-late_done job (Some this) s done ends e = rw (never_stuck job this.slot this.symbol s done, never_stuck job this.slot this.symbol s (ends (begin job this.slot this.symbol s)))
+late_done job (Some l) s done ends e =
+    rw (never_stuck job l.slot l.symbol s done, never_stuck job l.slot l.symbol s (ends (begin job l.slot l.symbol s)))
 
 -- ---- What is beside the display
 

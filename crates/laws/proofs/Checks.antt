@@ -14,7 +14,8 @@ use Rattle.rules.specs.Job.{Job, Call, unrolled, draws_of, job_of}
 use Rattle.rules.specs.declared.Event.{Event}
 use Rattle.rules.specs.LoadList.{events_of}
 use Rattle.rules.specs.Display.{State, going, refused, unless, start, finished, run}
-use Rattle.rules.specs.Refusals.{job_tests, call_tests, read_call, bad_list, short_check, first_bad_tick, follow, most_ticks, closing, follows, check_tests, checked}
+use Rattle.rules.specs.Refusals.{job_tests, call_tests, read_call, bad_list, short_check, first_bad_tick, follow, most_ticks, closing, follows}
+use Rattle.rules.specs.Refusals.{check_tests, checked}
 use Rattle.laws.proofs.Cases.{by_test, neither}
 use Rattle.laws.proofs.Verdicts.{clear_of, clear_append, unless_going, step, end, gives}
 use Rattle.laws.proofs.Moves.{then_going, is_over}

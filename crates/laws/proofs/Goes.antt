@@ -35,7 +35,9 @@ module _ (job : Job) (rule : Rule) (P L B : State → Type 0) (keeps : Moves job
   begins_at_all : (b : Option Load) (s : State) → rule.asks s ≡ b → 0 < length s.rest → L s → (s' : State) × (beginning job b s ≡ going s')
   unfolding beginning
   begins_at_all None s a more l = (s, refl)
-  begins_at_all (Some this) s a more l = (begin job this.slot this.symbol s, ap (λ (v : Verdict). unless v (going (begin job this.slot this.symbol s))) (goes.loads this.slot this.symbol s more a l))
+  begins_at_all (Some this) s a more l =
+      let begun : State = begin job this.slot this.symbol s in
+      (begun, ap (λ (v : Verdict). unless v (going begun)) (goes.loads this.slot this.symbol s more a l))
 
   happens_at_all : (s : State) → 0 < length s.rest → B s → (s' : State) × (happened (happening_of s) (rule.done s) s ≡ going s')
   unfolding happened

@@ -32,7 +32,9 @@ module _ (job : Job) (asks : State → Option Load) (s : State) (ready : Ready j
   begins_or_not None e = goes_through (land s) (ready.served e)
   begins_or_not (Some this) e =
       let (s', h) = goes_through (begin job this.slot this.symbol (land s)) (λ i. let z : ◌≡◌ {A = ℕ} 0 1 = cc in absurd (omega arith)) in
-      (s', ap (λ (v : Verdict). then (unless v (going (begin job this.slot this.symbol (land s)))) (λ z. happened (happening_of z) true z)) (ready.permitted this.slot this.symbol e) ∙ h)
+      let begun : State = begin job this.slot this.symbol (land s) in
+      let permitted = ready.permitted this.slot this.symbol e in
+      (s', ap (λ (v : Verdict). then (unless v (going begun)) (λ z. happened (happening_of z) true z)) permitted ∙ h)
 
   -- The tick goes on to a next state.
   pub goes_on : (s' : State) × (tick job (asking asks) s ≡ going s')

@@ -38,8 +38,8 @@ unfolding short_plan
 room_test_lem asked reading shape room r is taken e = rw (limits asked shape (sym is ∙ taken)).many_draws e
 
 -- What the run asks for is known past the tests.
-pub roomy : (job : List ℕ) (rounds : ℕ) (reading : Result Unrolled Refusal) (shape : Unrolled) (room : List ℕ) (r : Bool) → reading ≡ read_call (call job rounds)
-    → reading ≡ Ok shape → r ≡ ltb (length room) (head_size + event_size * shape.draws) → r ≡ false
+pub roomy : (job : List ℕ) (rounds : ℕ) (reading : Result Unrolled Refusal) (shape : Unrolled) (room : List ℕ) (r : Bool)
+    → reading ≡ read_call (call job rounds) → reading ≡ Ok shape → r ≡ ltb (length room) (head_size + event_size * shape.draws) → r ≡ false
     → HasRoom (call job shape.rounds) shape room
 roomy job rounds reading shape room r is taken e fails =
     let read : read_call (call job rounds) ≡ Ok shape = sym is ∙ taken in
