@@ -6,7 +6,9 @@ use mathlib.Core.Bool.{true, false}
 use mathlib.Core.List.{List}
 use lib.ListN.{length, get_or, drop, drop_of_length-le}
 use lib.Seq.{drop-cons, drop-drop}
-use borrow.Author.Tests.{eq-eqb, ne_eqb}
+use Rattle.std.specs.Prelude.{Result, Ok, Err}
+use Rattle.rules.specs.declared.refusal.Refusal.{Refusal}
+use Rattle.rules.specs.Refusing.{refusal_number, refusal_detail}
 use Rattle.rules.specs.declared.Happening.{Happening}
 use Rattle.rules.specs.declared.Happening.TheVariants.{Draw, Wait}
 use Rattle.rules.specs.Basics.{stands}
@@ -119,31 +121,32 @@ module _ (job : Job) (rule : Rule) (limit : ℕ) where
       pub going_more : finished h.rest ≡ false
       going_more = rest_more job.draws h.rest d.next g.rest within
 
-      module _ (early : d.tick < limit) (slots' : List ℕ) (r : Ticked) (ticks : Ticks job rule slots slots' d r) where
-        ticks_on : (later : Run) → leads slots' (λ t. onward d t h) r ≡ later
-            → run job rule limit (start job) ≡ then later (run job rule (limit - d.tick - 1))
-        ticks_on later e =
+      module _ (early : d.tick < limit) (slots' : List ℕ) where
+        ticks_on : (r : Result Ticked Refusal) → Ticks job rule slots slots' d r
+            → run job rule limit (start job) ≡ then (leads slots' (λ t. onward d t h) r) (run job rule (limit - d.tick - 1))
+        ticks_on r ticks =
             let one_less : limit - d.tick ≡ suc (limit - d.tick - 1) = omega arith in
             sym g.whole
             ∙ ap (λ (t : ℕ). run job rule t (view slots h d)) one_less
             ∙ run_unfinished job rule (limit - d.tick - 1) (view slots h d) going_more
-            ∙ ap (λ (x : Run). then x (run job rule (limit - d.tick - 1))) (sym (ticks.run h g.rest) ∙ e)
+            ∙ ap (λ (x : Run). then x (run job rule (limit - d.tick - 1))) (sym (ticks.run h g.rest))
 
-        pub going_refused : (r.number ≡ 0 → ⊥) → run job rule limit (start job) ≡ refused r.number r.detail
-        going_refused some = ticks_on (refused r.number r.detail) (rw (ne_eqb r.number 0 some))
+        pub going_refused : (e : Refusal) → Ticks job rule slots slots' d (Err e)
+            → run job rule limit (start job) ≡ refused (refusal_number e) (refusal_detail e)
+        going_refused e ticks = ticks_on (Err e) ticks
 
         -- A tick that was not refused may be followed by a stretch of waits.
-        pub going_rests : r.number ≡ 0 → MayRest limit r.display
-        going_rests went = tick_rests limit d r.display r.on_record.happening going_may early (ticks.counts went)
+        pub going_rests : (r : Ticked) → Ticks job rule slots slots' d (Ok r) → MayRest limit r.display
+        going_rests r ticks = tick_rests limit d r.display r.on_record.happening going_may early ticks.counts
 
-        module _ (went : r.number ≡ 0) (quiet : ℕ → Type 0) (e : Display)
+        module _ (r : Ticked) (ticks : Ticks job rule slots slots' d (Ok r)) (quiet : ℕ → Type 0) (e : Display)
             (rested : Rested quiet limit r.on_record.happening r.display e)
             (calm : (m : ℕ) → quiet m → (j : ℕ) → j < m → Quiet job rule slots' (onward d r.on_record h) (passed j r.display)) where
           abbrev h' : History
           h' = onward d r.on_record h
 
           counts : Counted 1 r.on_record.happening d r.display
-          counts = ticks.counts went
+          counts = ticks.counts
 
           rest' : h'.rest ≡ drop r.display.next job.draws
           rest' =
@@ -161,7 +164,7 @@ module _ (job : Job) (rule : Rule) (limit : ℕ) where
           pub absent : 0 < rested.many → stands (get_or h'.rest 0 0) slots' ≡ false
           absent some =
               rw (same_rest some, g.rest)
-              (waits_missed r.on_record.happening (get_or (drop d.next job.draws) 0 0) slots' (rested.after_a_wait some) (ticks.waits went))
+              (waits_missed r.on_record.happening (get_or (drop d.next job.draws) 0 0) slots' (rested.after_a_wait some) ticks.waits)
 
           whole' : run job rule (limit - (r.display.tick + rested.many)) (view slots' h' (passed rested.many r.display))
               ≡ run job rule limit (start job)
@@ -170,7 +173,7 @@ module _ (job : Job) (rule : Rule) (limit : ℕ) where
               let fits : r.display.tick + rested.many ≤ limit = rested.in_its_time in
               let left : limit - d.tick - 1 ≡ rested.many + (limit - (r.display.tick + rested.many)) = omega arith in
               sym
-              (ticks_on (going (view slots' h' r.display)) (rw (eq-eqb r.number 0 went))
+              (ticks_on (Ok r) ticks
               ∙ ap (λ (t : ℕ). run job rule t (view slots' h' r.display)) left
               ∙ stretch_run job rule slots' h' rested.many (limit - (r.display.tick + rested.many)) r.display
               (λ some. ap finished (same_rest some) ∙ going_more) absent (calm rested.many rested.still))
@@ -178,7 +181,7 @@ module _ (job : Job) (rule : Rule) (limit : ℕ) where
           pub going_on : Going slots' e h'
           going_on =
               let m : ℕ = rested.many in
-              let may : MayRest limit r.display = going_rests went in
+              let may : MayRest limit r.display = going_rests r ticks in
               let few_waits : r.display.waits ≤ r.display.tick = may.waits in
               let short_pause : r.display.pause ≤ r.display.tick = may.pause in
               let later : r.display.tick ≡ d.tick + 1 = counts.tick in

@@ -5,15 +5,15 @@ use mathlib.Core.Path.{◌≡◌, refl, sym, ap}
 use mathlib.Core.Bool.{Bool, not}
 use lib.Dec.{eqb, ltb, leb}
 use borrow.Author.Tests.{ltb-true, ltb-false, lt-leb, le-leb, ne_eqb}
-use Rattle.std.specs.Prelude.{Option, Some, None}
+use Rattle.std.specs.Prelude.{Option, Some, None, Ok, Err}
 use Rattle.rules.specs.declared.Load.{Load}
-use Rattle.rules.specs.Order.{clear, met, number_in}
+use Rattle.rules.specs.Order.{clear, met}
 use Rattle.rules.specs.Job.{Job}
 use Rattle.rules.specs.Display.{State, idle, loadable, load_tests}
 use Rattle.laws.proofs.Cases.{by_test}
 use Rattle.laws.proofs.Verdicts.{Gives, gives}
 use Rattle.display.specs.View.{loading_of}
-use Rattle.display.specs.Tick.{asked_refusal}
+use Rattle.display.specs.Tick.{refusal_of_load, refused_by, asked_refusal}
 
 -- A load is under way where there are ticks until it ends.
 pub busy : (until q x : ℕ) → not (eqb until 0) ≡ not (idle (loading_of until q x))
@@ -29,13 +29,13 @@ pub in_slots : (job : Job) (r : Bool) (k q : ℕ) → job.slots ≡ k → r ≡ 
 in_slots job r k q same e = rw same e
 
 -- What is answered where nothing is asked for, where a test is met, and where none is.
-pub none_asked : (job : Job) (asked : Option Load) (s : State) → asked ≡ None → 0 ≡ asked_refusal job asked s
+pub none_asked : (job : Job) (asked : Option Load) (s : State) → asked ≡ None → Ok tt ≡ asked_refusal job asked s
 none_asked job asked s e = rw e
 
-pub asked_met : (job : Job) (asked : Option Load) (s : State) (n : ℕ) (l : Load) → asked ≡ Some l → Gives (load_tests job l.slot l.symbol s) (met n s.loads)
-    → n ≡ asked_refusal job asked s
-asked_met job asked s n l e g = rw e (ap number_in (sym (gives _ _ g)))
+pub asked_met : (job : Job) (asked : Option Load) (s : State) (l : Load) (n : ℕ) → asked ≡ Some l
+    → Gives (load_tests job l.slot l.symbol s) (met n s.loads) → Err (refusal_of_load n s.loads) ≡ asked_refusal job asked s
+asked_met job asked s l n e g = rw e (ap refused_by (sym (gives _ _ g)))
 
-pub asked_clear : (job : Job) (asked : Option Load) (s : State) (l : Load) → asked ≡ Some l → Gives (load_tests job l.slot l.symbol s) clear
-    → 0 ≡ asked_refusal job asked s
-asked_clear job asked s l e g = rw e (ap number_in (sym (gives _ _ g)))
+pub asked_clear : (job : Job) (asked : Option Load) (s : State) (l : Load) → asked ≡ Some l
+    → Gives (load_tests job l.slot l.symbol s) clear → Ok tt ≡ asked_refusal job asked s
+asked_clear job asked s l e g = rw e (ap refused_by (sym (gives _ _ g)))

@@ -17,7 +17,6 @@ use Rattle.display.proofs.still.before_end as before_end
 use Rattle.display.proofs.still.pass_waits as pass_waits
 use Rattle.display.proofs.still.smaller as smaller
 use Rattle.display.proofs.tick.load_refusal as load_refusal
-use Rattle.display.proofs.tick.refused_load as refused_load
 use Rattle.display.proofs.tick.draw_or_wait as draw_or_wait
 
 -- Where a contract holds for every history and every job, one of each decides the answer.
@@ -35,9 +34,6 @@ before_end_promise = record { any = λ κs given. tt; one = λ κs given answer 
 
 pub smaller_promise : Promise contracts.smaller.ended smaller.Reads.Asked smaller.Reads.Learnt
 smaller_promise = record { any = λ κs given. tt; one = λ κs given answer answer' left left' asked p q. (same p q, refl) }
-
-pub refused_load_promise : Promise contracts.refused_load.ended refused_load.Reads.Asked refused_load.Reads.Learnt
-refused_load_promise = record { any = λ κs given. tt; one = λ κs given answer answer' left left' asked p q. (same p q, refl) }
 
 pub slot_of_promise : Promise contracts.slot_of.ended slot_of.Reads.Asked slot_of.Reads.Learnt
 slot_of_promise =

@@ -1,11 +1,14 @@
 -- The three steps of a tick of the code, one after the other, are a tick of the rules, by any rule.
 use Prim.Native.Nat.{ℕ}
 use mathlib.Core.Path.{◌≡◌, refl, sym, ap, ◌∙◌}
-use mathlib.Core.Bool.{Bool, false, cond}
+use mathlib.Core.Bool.{Bool, false}
 use mathlib.Core.List.{List, [], ◌∷◌, ◌++◌}
 use lib.ListN.{get_or, drop}
 use lib.Dec.{eqb}
-use borrow.Author.Tests.{ne_eqb}
+use Rattle.std.specs.Prelude.{Result, Ok, Err, IfOk}
+use native.Mathlib.Omega.{arith}
+use Rattle.rules.specs.declared.refusal.Refusal.{Refusal}
+use Rattle.rules.specs.Refusing.{refusal_number, refusal_detail}
 use Rattle.std.specs.Prelude.{Option, Some, None}
 use Rattle.rules.specs.declared.Load.{Load}
 use Rattle.rules.specs.declared.Happening.{Happening}
@@ -13,30 +16,53 @@ use Rattle.rules.specs.declared.Happening.TheVariants.{Draw, Wait}
 use Rattle.rules.specs.declared.TickRecord.{TickRecord}
 use Rattle.rules.specs.Basics.{stands}
 use Rattle.rules.specs.Job.{Job}
-use Rattle.rules.specs.Order.{Verdict}
-use Rattle.rules.specs.Display.{State, Run, Rule, drawn, going, refused, unless, then, begin, begun_by, beginning, happening_of, happened, record_of}
+use Rattle.rules.specs.Order.{Verdict, clear, met, first_of}
+use Rattle.rules.specs.Display.{State, Run, Rule, drawn, going, refused, unless, then, begin, begun_by, beginning, load_tests, happening_of, happened, record_of}
 use Rattle.rules.specs.Display.{record_at, stuck, tick}
 use Rattle.laws.proofs.Cases.{by_test}
-use Rattle.laws.proofs.Moves.{load_clear, load_met}
+use Rattle.laws.proofs.Verdicts.{Each, met_by}
 use Rattle.display.specs.declared.state.Display.{Display}
 use Rattle.display.specs.declared.tick.Ticked.{Ticked}
 use Rattle.display.specs.View.{History, view, awaiting, history_begun, history_made, onward, Lands}
-use Rattle.display.specs.Tick.{DrawnOrWaited, Ticks, OnRecord, asked_refusal, leads, Missed}
+use Rattle.display.specs.Tick.{DrawnOrWaited, Counted, Ticks, Recorded, OnRecord, refusal_of_load, refused_by, asked_refusal, leads, Missed}
 use Rattle.display.proofs.Ticks.{same_happening}
 use Rattle.display.proofs.Keeps.{LandKeeps, BeginKeeps, land_keeps, begin_keeps, tick_counts}
 
 -- ---- Step 2
 
-beginning_goes : (job : Job) (asked : Option Load) (s : State) → asked_refusal job asked s ≡ 0 → beginning job asked s ≡ going (begun_by job asked s)
+-- What the code's refusal of a load tells of the order of its tests.
+not_refused : (v : Verdict) → refused_by v ≡ Ok tt → v ≡ clear
+not_refused clear e = refl
+not_refused (met n d) e = let z : ◌≡◌ {A = ℕ} 0 1 = cc in absurd (omega arith)
+
+beginning_goes : (job : Job) (asked : Option Load) (s : State) → asked_refusal job asked s ≡ Ok tt
+    → beginning job asked s ≡ going (begun_by job asked s)
 unfolding beginning
 beginning_goes job None s none = refl
-beginning_goes job (Some this) s none = ap (λ (v : Verdict). unless v (going (begin job this.slot this.symbol s))) (load_clear job this.slot this.symbol s none)
+beginning_goes job (Some l) s none =
+    ap (λ (v : Verdict). unless v (going (begin job l.slot l.symbol s))) (not_refused (first_of (load_tests job l.slot l.symbol s)) none)
 
-beginning_halts : (job : Job) (asked : Option Load) (s : State) → (asked_refusal job asked s ≡ 0 → ⊥)
-    → beginning job asked s ≡ refused (asked_refusal job asked s) s.loads
+-- A test of a load gives its own number, and its event as the detail.
+load_given : (job : Job) (q x : ℕ) (s : State) (n d : ℕ) → first_of (load_tests job q x s) ≡ met n d
+    → (refusal_number (refusal_of_load n d) ≡ n) × (refusal_detail (refusal_of_load n d) ≡ d)
+load_given job q x s n d is =
+    met_by (λ m c. (refusal_number (refusal_of_load m c) ≡ m) × (refusal_detail (refusal_of_load m c) ≡ c)) (load_tests job q x s) n d
+    (unfold Each in search) is
+
+halts_by : (job : Job) (q x : ℕ) (s : State) (e : Refusal) (v : Verdict) → first_of (load_tests job q x s) ≡ v → refused_by v ≡ Err e
+    → (r : Run) → unless v r ≡ refused (refusal_number e) (refusal_detail e)
+halts_by job q x s e clear is some r = let z : ◌≡◌ {A = ℕ} 0 1 = cc in absurd (omega arith)
+halts_by job q x s e (met n d) is some r =
+    let (number, detail) = load_given job q x s n d is in
+    let same : refusal_of_load n d ≡ e = cc in
+    rw (← same, number, detail)
+
+beginning_halts : (job : Job) (asked : Option Load) (s : State) (e : Refusal) → asked_refusal job asked s ≡ Err e
+    → beginning job asked s ≡ refused (refusal_number e) (refusal_detail e)
 unfolding beginning
-beginning_halts job None s some = absurd (some refl)
-beginning_halts job (Some this) s some = ap (λ (v : Verdict). unless v (going (begin job this.slot this.symbol s))) (load_met job this.slot this.symbol s some)
+beginning_halts job None s e some = let z : ◌≡◌ {A = ℕ} 0 1 = cc in absurd (omega arith)
+beginning_halts job (Some l) s e some =
+    halts_by job l.slot l.symbol s e (first_of (load_tests job l.slot l.symbol s)) refl some (going (begin job l.slot l.symbol s))
 
 -- In a tick in which a load begins no wait is stuck, so it does not matter when the rule is asked whether it is done.
 never_stuck : (job : Job) (q x : ℕ) (s : State) (done : Bool) → stuck (happening_of (begin job q x s)) done ≡ false
@@ -69,9 +95,10 @@ pub begun_rest : (d : Display) (asked : Option Load) (h : History) → (history_
 begun_rest d None h = refl
 begun_rest d (Some this) h = refl
 
-same_leads : (slots : List ℕ) (f g : TickRecord → History) (r : Ticked) → f r.on_record ≡ g r.on_record → leads slots f r ≡ leads slots g r
-same_leads slots f g r e =
-    ap (λ (h : History). cond (eqb r.number 0) (going (view slots h r.display)) (refused r.number r.detail)) e
+same_leads : (slots : List ℕ) (f g : TickRecord → History) (r : Result Ticked Refusal) → IfOk r (λ t. f t.on_record ≡ g t.on_record)
+    → leads slots f r ≡ leads slots g r
+same_leads slots f g (Ok r) e = ap (λ (h : History). going (view slots h r.display)) e
+same_leads slots f g (Err refusal) e = refl
 
 -- A wait on record says that the awaited symbol is in no slot.
 missed_of : (asked : Option Load) (x : ℕ) (slots : List ℕ) (d : Display) → Missed (happening_of (view slots (awaiting x) d)) x slots
@@ -81,8 +108,7 @@ missed_of asked x slots d = by_test (stands x slots) (λ held. rw held tt) (λ a
 
 module _ (job : Job) (rule : Rule) (slots slots₁ : List ℕ) (d l : Display)
     (lands : Lands slots d slots₁ l) (asked : Option Load)
-    (asks : (h : History) → h.rest ≡ drop d.next job.draws → asked ≡ rule.asks (view slots₁ h l)) (number : ℕ)
-    (numbered : (h : History) → number ≡ asked_refusal job asked (view slots₁ h l)) where
+    (asks : (h : History) → h.rest ≡ drop d.next job.draws → asked ≡ rule.asks (view slots₁ h l)) where
   -- The tick of the rules, from the landed display on.
   from_landed : (h : History) → h.rest ≡ drop d.next job.draws
       → tick job rule (view slots h d)
@@ -95,26 +121,21 @@ module _ (job : Job) (rule : Rule) (slots slots₁ : List ℕ) (d l : Display)
       (λ (x : Option Load). then (beginning job x (view slots₁ h l)) (λ b. happened (record_of x b).happening (rule.done b) b))
       (sym (asks h remain))
 
-  pub ticks_refused : (number ≡ 0 → ⊥) → (r : Ticked) → r.number ≡ number → r.detail ≡ l.loads → Ticks job rule slots slots₁ d r
-  ticks_refused some r same detailed =
+  -- Where the load is refused.
+  pub ticks_refused : (e : Refusal) → ((h : History) → asked_refusal job asked (view slots₁ h l) ≡ Err e) → Ticks job rule slots slots₁ d (Err e)
+  ticks_refused e halts =
       record {
-        counts = λ none. absurd (some (sym same ∙ none));
-        waits = λ none. absurd (some (sym same ∙ none));
+        counts = tt;
+        waits = tt;
         run = λ h remain.
-            let here : State = view slots₁ h l in
-            let halts : (asked_refusal job asked here ≡ 0 → ⊥) = λ none. some (numbered h ∙ none) in
-            rw (same, detailed, ne_eqb number 0 some)
-            (sym
+            sym
             (from_landed h remain
             ∙ ap (λ (x : Run). then x (λ b. happened (record_of asked b).happening (rule.done b) b))
-            (beginning_halts job asked here halts ∙ ap (λ (n : ℕ). refused n l.loads) (sym (numbered h)))));
+            (beginning_halts job asked (view slots₁ h l) e (halts h)));
       }
 
-  pub refused_recorded : (number ≡ 0 → ⊥) → (r : Ticked) → r.number ≡ number → r.detail ≡ l.loads → OnRecord job rule slots slots₁ d r
-  refused_recorded some r same detailed =
-      record { ticks = ticks_refused some r same detailed; recorded = λ none. absurd (some (sym same ∙ none)) }
-
-  module _ (none : number ≡ 0) (slots₂ : List ℕ) (b : Display)
+  -- Where it is not, or none is asked for.
+  module _ (none : (h : History) → asked_refusal job asked (view slots₁ h l) ≡ Ok tt) (slots₂ : List ℕ) (b : Display)
       (begins : (h : History) → view slots₂ (history_begun l asked h) b ≡ begun_by job asked (view slots₁ h l)) where
     landed : LandKeeps d l
     landed = land_keeps slots slots₁ d l lands
@@ -123,43 +144,64 @@ module _ (job : Job) (rule : Rule) (slots slots₁ : List ℕ) (d l : Display)
     begun = begin_keeps job asked slots₁ slots₂ l b begins
 
     module _ (symbol : ℕ) (awaits : get_or (drop d.next job.draws) 0 0 ≡ symbol) (done : Bool)
-        (ends : (h : History) → rule.done (view slots₁ h l) ≡ done) (r : Ticked) (settled : DrawnOrWaited slots₂ b asked symbol done r) where
-      same_asked : r.on_record.begun ≡ asked
-      same_asked = ap (λ (t : TickRecord). t.begun) settled.recorded
-
-      same_onward : (h : History) → onward d r.on_record h ≡ history_made b r.on_record.happening (history_begun l asked h)
-      same_onward h =
-          ap (λ (x : Option Load). history_made d r.on_record.happening (history_begun d x h)) same_asked
-          ∙ ap (history_made d r.on_record.happening) (same_begun d l asked h landed.tick landed.next)
-          ∙ same_made d b r.on_record.happening (history_begun l asked h) (begun.tick ∙ landed.tick)
-
-      pub ticks_went : Ticks job rule slots slots₂ d r
-      ticks_went =
-          record {
-            counts = λ went. tick_counts landed begun (settled.counts went);
-            waits = λ went. rw (awaits, settled.recorded) (missed_of asked symbol slots₂ b);
-            run = λ h remain.
-                let here : State = view slots₁ h l in
-                same_leads slots₂ (λ t. onward d t h) (λ t. history_made b t.happening (history_begun l asked h)) r (same_onward h)
-                ∙ settled.run (history_begun l asked h) (ap (λ (x : List ℕ). get_or x 0 0) (begun_rest l asked h ∙ remain) ∙ awaits)
-                ∙ ap (λ (s : State). happened (happening_of s) done s) (begins h)
-                ∙ late_done job asked here done rule.done (ends h)
-                ∙ sym
-                (from_landed h remain
-                ∙ ap (λ (x : Run). then x (λ s. happened (record_of asked s).happening (rule.done s) s))
-                (beginning_goes job asked here (sym (numbered h) ∙ none)));
-          }
+        (ends : (h : History) → rule.done (view slots₁ h l) ≡ done) where
+      same_onward : (h : History) (t : TickRecord) → t.begun ≡ asked
+          → onward d t h ≡ history_made b t.happening (history_begun l asked h)
+      same_onward h t same_asked =
+          ap (λ (x : Option Load). history_made d t.happening (history_begun d x h)) same_asked
+          ∙ ap (history_made d t.happening) (same_begun d l asked h landed.tick landed.next)
+          ∙ same_made d b t.happening (history_begun l asked h) (begun.tick ∙ landed.tick)
 
       -- What the code has on record is what the rules have.
-      same_record : (h : History) → h.rest ≡ drop d.next job.draws → r.on_record ≡ record_at job rule (view slots h d)
-      same_record h remain =
+      same_record : (t : TickRecord) → t ≡ record_of asked (view slots₂ (awaiting symbol) b)
+          → (h : History) → h.rest ≡ drop d.next job.draws → t ≡ record_at job rule (view slots h d)
+      same_record t recorded h remain =
           let next_symbol : get_or (history_begun l asked h).rest 0 0 ≡ symbol =
           ap (λ (x : List ℕ). get_or x 0 0) (begun_rest l asked h ∙ remain) ∙ awaits in
-          settled.recorded
+          recorded
           ∙ ap (λ (x : Happening). record { begun = asked; happening = x }) (sym (same_happening slots₂ b (history_begun l asked h) symbol next_symbol))
           ∙ ap (record_of asked) (begins h)
           ∙ ap (λ (x : Option Load). record_of x (begun_by job x (view slots₁ h l))) (asks h remain)
           ∙ ap (λ (s : State). record_of (rule.asks s) (begun_by job (rule.asks s) s)) (lands h)
 
-      pub ticks_recorded : OnRecord job rule slots slots₂ d r
-      ticks_recorded = record { ticks = ticks_went; recorded = λ went h remain. same_record h remain }
+      module _ (r : Result Ticked Refusal) (settled : DrawnOrWaited slots₂ b asked symbol done r) where
+        went_onward : (r' : Result Ticked Refusal) → IfOk r' (λ t. t.on_record ≡ record_of asked (view slots₂ (awaiting symbol) b)) → (h : History)
+            → IfOk r' (λ t. onward d t.on_record h ≡ history_made b t.on_record.happening (history_begun l asked h))
+        went_onward (Ok t) recorded h = same_onward h t.on_record (ap (λ (x : TickRecord). x.begun) recorded)
+        went_onward (Err e) recorded h = tt
+
+        went_counts : (r' : Result Ticked Refusal) → IfOk r' (λ t. Counted 0 t.on_record.happening b t.display)
+            → IfOk r' (λ t. Counted 1 t.on_record.happening d t.display)
+        went_counts (Ok t) counts = tick_counts landed begun counts
+        went_counts (Err e) counts = tt
+
+        went_missed : (r' : Result Ticked Refusal) → IfOk r' (λ t. t.on_record ≡ record_of asked (view slots₂ (awaiting symbol) b))
+            → IfOk r' (λ t. Missed t.on_record.happening (get_or (drop d.next job.draws) 0 0) slots₂)
+        went_missed (Ok t) recorded = rw (awaits, recorded) (missed_of asked symbol slots₂ b)
+        went_missed (Err e) recorded = tt
+
+        went_recorded : (r' : Result Ticked Refusal) → IfOk r' (λ t. t.on_record ≡ record_of asked (view slots₂ (awaiting symbol) b))
+            → Recorded job rule slots d r'
+        went_recorded (Ok t) recorded = same_record t.on_record recorded
+        went_recorded (Err e) recorded = tt
+
+        pub ticks_went : Ticks job rule slots slots₂ d r
+        ticks_went =
+            record {
+              counts = went_counts r settled.counts;
+              waits = went_missed r settled.recorded;
+              run = λ h remain.
+                  let here : State = view slots₁ h l in
+                  same_leads slots₂ (λ t. onward d t h) (λ t. history_made b t.happening (history_begun l asked h)) r
+                  (went_onward r settled.recorded h)
+                  ∙ settled.run (history_begun l asked h) (ap (λ (x : List ℕ). get_or x 0 0) (begun_rest l asked h ∙ remain) ∙ awaits)
+                  ∙ ap (λ (s : State). happened (happening_of s) done s) (begins h)
+                  ∙ late_done job asked here done rule.done (ends h)
+                  ∙ sym
+                  (from_landed h remain
+                  ∙ ap (λ (x : Run). then x (λ s. happened (record_of asked s).happening (rule.done s) s))
+                  (beginning_goes job asked here (none h)));
+            }
+
+        pub ticks_recorded : OnRecord job rule slots slots₂ d r
+        ticks_recorded = record { ticks = ticks_went; recorded = went_recorded r settled.recorded }

@@ -1,7 +1,7 @@
 -- Step 3 of a tick from what happens in it, and the counters after it.
 use Prim.Native.Nat.{ℕ}
 use native.Mathlib.Omega.{arith}
-use mathlib.Core.Path.{◌≡◌, refl, sym, ap, ◌∙◌}
+use mathlib.Core.Path.{◌≡◌, refl, ap}
 use mathlib.Core.Bool.{Bool, true, false, cond}
 use mathlib.Core.List.{List}
 use lib.ListN.{get_or}
@@ -16,6 +16,9 @@ use Rattle.display.specs.View.{History, loading_of, view, awaiting, history_made
 use Rattle.rules.specs.declared.TickRecord.{TickRecord}
 use Rattle.laws.proofs.Cases.{by_test}
 use Rattle.display.specs.declared.tick.Ticked.{Ticked}
+use Rattle.std.specs.Prelude.{Result, Ok, Err}
+use Rattle.rules.specs.declared.refusal.Refusal.{Refusal}
+use Rattle.rules.specs.declared.refusal.Refusal.TheVariants.{EndlessWait}
 use Rattle.display.specs.Moves.{moved_on, drawn_or_waited}
 use Rattle.display.specs.Tick.{DrawnOrWaited, Counted}
 
@@ -44,42 +47,20 @@ module _ (slots : List ℕ) (d : Display) (asked : Option Load) (symbol : ℕ) (
   abbrev on : TickRecord
   on = record_of asked (view slots (awaiting symbol) d)
 
-  refused_step : stuck here done ≡ true
-      → DrawnOrWaited slots d asked symbol done (record { number = 13; detail = d.next; on_record = on; display = d })
+  refused_step : stuck here done ≡ true → DrawnOrWaited slots d asked symbol done (Err (EndlessWait d.next))
   unfolding happened
-  refused_step halts =
-      record {
-        recorded = refl;
-        counts = λ none. absurd (omega arith);
-        run = λ h e. rw (same_happening slots d h symbol e, halts);
-      }
+  refused_step halts = record { recorded = tt; counts = tt; run = λ h e. rw (same_happening slots d h symbol e, halts) }
 
   moved_step : stuck here done ≡ false
-      → DrawnOrWaited slots d asked symbol done (record { number = 0; detail = 0; on_record = on; display = moved_on here d })
+      → DrawnOrWaited slots d asked symbol done (Ok (record { on_record = on; display = moved_on here d }))
   unfolding happened
   moved_step goes =
       record {
         recorded = refl;
-        counts = λ none. moved_counts d here;
+        counts = moved_counts d here;
         run = λ h e. rw (same_happening slots d h symbol e, goes) (ap going (moved_view slots d here h));
       }
 
   -- Step 3 as its equation has it is step 3 of the rules.
-  pub steps_so : (r : Ticked) → r ≡ drawn_or_waited slots d asked symbol done → DrawnOrWaited slots d asked symbol done r
+  pub steps_so : (r : Result Ticked Refusal) → r ≡ drawn_or_waited slots d asked symbol done → DrawnOrWaited slots d asked symbol done r
   steps_so r is = rw is (by_test (stuck here done) (λ t. rw t (refused_step t)) (λ t. rw t (moved_step t)))
-
-  -- As the code comes to it: from what it found to happen, and whether that is stuck.
-  module _ (happening : Happening) (known : happening ≡ here) where
-    pub steps_refused : stuck happening done ≡ true
-        → record { number = 13; detail = d.next; on_record = record { begun = asked; happening = happening }; display = d }
-        ≡ drawn_or_waited slots d asked symbol done
-    steps_refused halts =
-        let now_stuck : stuck here done ≡ true = ap (λ (x : Happening). stuck x done) (sym known) ∙ halts in
-        rw (now_stuck, known)
-
-    pub steps_moved : stuck happening done ≡ false → (r : Display) → r ≡ moved_on happening d
-        → record { number = 0; detail = 0; on_record = record { begun = asked; happening = happening }; display = r }
-        ≡ drawn_or_waited slots d asked symbol done
-    steps_moved goes r is =
-        let not_stuck : stuck here done ≡ false = ap (λ (x : Happening). stuck x done) (sym known) ∙ goes in
-        rw (not_stuck, is, known)

@@ -1,10 +1,12 @@
 -- The moves of the code's display, each as an equation: the display after it, and what the slots hold after it. What they are in the rules'
 -- state is a law to each (proofs/Views.antt, proofs/Ticks.antt).
-use Rattle.std.specs.Prelude.{ℕ, ◌+◌, ◌-◌, max, Bool, cond, List, set, eqb, Option, Some, None}
+use Rattle.std.specs.Prelude.{ℕ, ◌+◌, ◌-◌, max, Bool, cond, List, set, eqb, Option, Some, None, Result, Ok, Err}
 use Rattle.rules.specs.declared.Load.{Load}
 use Rattle.rules.specs.declared.Happening.{Happening}
 use Rattle.rules.specs.declared.Happening.TheVariants.{Draw, Wait}
 use Rattle.rules.specs.declared.TickRecord.{TickRecord}
+use Rattle.rules.specs.declared.refusal.Refusal.{Refusal}
+use Rattle.rules.specs.declared.refusal.Refusal.TheVariants.{EndlessWait}
 use Rattle.rules.specs.Job.{free}
 use Rattle.rules.specs.Display.{record_of, stuck}
 use Rattle.display.specs.declared.state.Display.{Display}
@@ -87,11 +89,9 @@ moved_on (Draw q) d = after_draw d
 moved_on (Wait cause) d = after_wait d
 
 -- Step 3 with its record: refused with 13 where the wait would never end, and else the display moved on.
-abbrev pub stepped : TickRecord → Bool → Display → Ticked
+abbrev pub stepped : TickRecord → Bool → Display → Result Ticked Refusal
 stepped on done d =
-    cond (stuck on.happening done)
-    (record { number = 13; detail = d.next; on_record = on; display = d })
-    (record { number = 0; detail = 0; on_record = on; display = moved_on on.happening d })
+    cond (stuck on.happening done) (Err (EndlessWait d.next)) (Ok (record { on_record = on; display = moved_on on.happening d }))
 
-abbrev pub drawn_or_waited : List ℕ → Display → Option Load → ℕ → Bool → Ticked
+abbrev pub drawn_or_waited : List ℕ → Display → Option Load → ℕ → Bool → Result Ticked Refusal
 drawn_or_waited slots d asked symbol done = stepped (record_of asked (view slots (awaiting symbol) d)) done d

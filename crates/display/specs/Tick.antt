@@ -1,13 +1,17 @@
 -- What a tick of the code answers, as the rules have it.
 use Rattle.std.specs.Prelude.{ℕ, ◌+◌, ◌≤◌, ◌<◌, ◌≡◌, Bool, false, cond, List, length, get_or, drop, eqb, Option, Some, None}
+use Rattle.std.specs.Prelude.{Result, Ok, Err, IfOk}
 use Rattle.rules.specs.declared.Load.{Load}
-use Rattle.rules.specs.declared.Cause.TheVariants.{Nothing}
 use Rattle.rules.specs.declared.Happening.{Happening}
 use Rattle.rules.specs.declared.Happening.TheVariants.{Draw, Wait}
 use Rattle.rules.specs.declared.TickRecord.{TickRecord}
+use Rattle.rules.specs.declared.refusal.Refusal.{Refusal}
+use Rattle.rules.specs.declared.refusal.Refusal.TheVariants.{LoadUnderWay, NoSuchSlot, SymbolHeld}
 use Rattle.rules.specs.Basics.{stands}
 use Rattle.rules.specs.Job.{Job, most_slots}
-use Rattle.rules.specs.Display.{State, Run, Rule, going, refused, load_refusal, happening_of, happened, record_of, record_at, tick}
+use Rattle.rules.specs.Order.{Verdict, clear, met, first_of}
+use Rattle.rules.specs.Refusing.{refusal_number, refusal_detail}
+use Rattle.rules.specs.Display.{State, Run, Rule, going, refused, load_tests, happening_of, happened, record_of, record_at, tick}
 use Rattle.display.specs.declared.state.Display.{Display}
 use Rattle.display.specs.declared.tick.Ticked.{Ticked}
 use Rattle.display.specs.View.{History, view, awaiting, history_made, onward}
@@ -29,20 +33,23 @@ pub record CanMove (slots : List ℕ) (d : Display) : Type 0 where
   pub few_slots : length slots ≤ most_slots
   pub room : Room d
 
--- The refusal of what is asked for, where anything is.
-abbrev pub asked_refusal : Job → Option Load → State → ℕ
-asked_refusal job None s = 0
-asked_refusal job (Some load) s = load_refusal job load.slot load.symbol s
+-- The refusal of a load by the number and the event of the test that it meets.
+abbrev pub refusal_of_load : ℕ → ℕ → Refusal
+refusal_of_load number event = cond (eqb number 10) (LoadUnderWay event) (cond (eqb number 11) (NoSuchSlot event) (SymbolHeld event))
 
--- The tick of a load that is refused with this number. Nothing begins in it, and the display is as it was.
-abbrev pub refused_load : ℕ → Display → Ticked
-refused_load number d =
-    record { number = number; detail = d.loads; on_record = record { begun = None; happening = Wait Nothing }; display = d }
+abbrev pub refused_by : Verdict → Result (Unit {0}) Refusal
+refused_by clear = Ok tt
+refused_by (met number event) = Err (refusal_of_load number event)
+
+-- The refusal of what is asked for, where anything is.
+abbrev pub asked_refusal : Job → Option Load → State → Result (Unit {0}) Refusal
+asked_refusal job None s = Ok tt
+asked_refusal job (Some l) s = refused_by (first_of (load_tests job l.slot l.symbol s))
 
 -- Where a tick leads, with these slots after it, given what is beside the display once the tick is on record.
-abbrev pub leads : List ℕ → (TickRecord → History) → Ticked → Run
-leads slots beside r =
-    cond (eqb r.number 0) (going (view slots (beside r.on_record) r.display)) (refused r.number r.detail)
+abbrev pub leads : List ℕ → (TickRecord → History) → Result Ticked Refusal → Run
+leads slots beside (Ok r) = going (view slots (beside r.on_record) r.display)
+leads slots beside (Err refusal) = refused (refusal_number refusal) (refusal_detail refusal)
 
 -- What the counters say after a tick: one tick more, one draw more where there was a draw, at most one wait more, also since the last draw,
 -- and no more loads than `most` allows.
@@ -58,9 +65,9 @@ pub record Counted (most : ℕ) (happening : Happening) (before later : Display)
   pub loads : later.loads ≤ before.loads + most
 
 -- Step 3 from d, with the awaited symbol, whatever is beside the display.
-pub record DrawnOrWaited (slots : List ℕ) (d : Display) (asked : Option Load) (symbol : ℕ) (done : Bool) (r : Ticked) : Type 0 where
-  pub recorded : r.on_record ≡ record_of asked (view slots (awaiting symbol) d)
-  pub counts : r.number ≡ 0 → Counted 0 r.on_record.happening d r.display
+pub record DrawnOrWaited (slots : List ℕ) (d : Display) (asked : Option Load) (symbol : ℕ) (done : Bool) (r : Result Ticked Refusal) : Type 0 where
+  pub recorded : IfOk r (λ t. t.on_record ≡ record_of asked (view slots (awaiting symbol) d))
+  pub counts : IfOk r (λ t. Counted 0 t.on_record.happening d t.display)
   pub run : (h : History)
       → get_or h.rest 0 0 ≡ symbol
       → leads slots (λ tick. history_made d tick.happening h) r ≡ happened (happening_of (view slots h d)) done (view slots h d)
@@ -71,19 +78,19 @@ Missed (Draw q) x slots = Unit {0}
 Missed (Wait cause) x slots = stands x slots ≡ false
 
 -- A tick of the code by a rule is a tick of the rules by it, whatever was drawn and loaded before.
-pub record Ticks (job : Job) (rule : Rule) (slots slots' : List ℕ) (d : Display) (r : Ticked) : Type 0 where
-  pub counts : r.number ≡ 0 → Counted 1 r.on_record.happening d r.display
-  pub waits : r.number ≡ 0 → Missed r.on_record.happening (get_or (drop d.next job.draws) 0 0) slots'
+pub record Ticks (job : Job) (rule : Rule) (slots slots' : List ℕ) (d : Display) (r : Result Ticked Refusal) : Type 0 where
+  pub counts : IfOk r (λ t. Counted 1 t.on_record.happening d t.display)
+  pub waits : IfOk r (λ t. Missed t.on_record.happening (get_or (drop d.next job.draws) 0 0) slots')
   pub run : (h : History)
       → h.rest ≡ drop d.next job.draws
       → leads slots' (λ tick. onward d tick h) r ≡ tick job rule (view slots h d)
 
 -- What the code has on record of a tick that was not refused is what the rules have.
-abbrev pub Recorded : Job → Rule → List ℕ → Display → Ticked → Type 0
+abbrev pub Recorded : Job → Rule → List ℕ → Display → Result Ticked Refusal → Type 0
 Recorded job rule slots d r =
-    r.number ≡ 0 → (h : History) → h.rest ≡ drop d.next job.draws → r.on_record ≡ record_at job rule (view slots h d)
+    IfOk r (λ t. (h : History) → h.rest ≡ drop d.next job.draws → t.on_record ≡ record_at job rule (view slots h d))
 
 -- Both of a tick.
-pub record OnRecord (job : Job) (rule : Rule) (slots slots' : List ℕ) (d : Display) (r : Ticked) : Type 0 where
+pub record OnRecord (job : Job) (rule : Rule) (slots slots' : List ℕ) (d : Display) (r : Result Ticked Refusal) : Type 0 where
   pub ticks : Ticks job rule slots slots' d r
   pub recorded : Recorded job rule slots d r

@@ -2,18 +2,19 @@
 ghost use Rattle.std.specs.Prelude.{◌≡◌, List, ℕ};
 ghost use Rattle.rules.specs.Display.{going, refused};
 ghost use Rattle.rules.specs.Refusals.{answer_of};
+ghost use Rattle.rules.specs.Refusing.{refusal_number, refusal_detail};
 ghost use Rattle.display.specs.View.{History, view};
 
 use crate::state::Display;
-use rules::Answer;
+use rules::{Answer, Refusal};
 
 // A refusal has its number and its detail, and no counts.
-pub fn refusal(number: u32, detail: u32) -> Answer
-    ensures { result ≡ answer_of (refused number detail) }
+pub fn refusal(reason: Refusal) -> Answer
+    ensures { result ≡ answer_of (refused (refusal_number reason) (refusal_detail reason)) }
 {
     Answer {
-        number,
-        detail,
+        number: reason.number(),
+        detail: reason.detail(),
         elapsed: 0,
         waits: 0,
         loads: 0,

@@ -5,17 +5,15 @@ ghost use Rattle.rules.specs.Job.{Job, free, most_slots};
 ghost use Rattle.rules.specs.Display.{idle, cause_of, happening_of, stuck};
 ghost use Rattle.display.specs.View.{History, view, loading_of, awaiting};
 ghost use Rattle.display.specs.Moves.{moved_on, drawn_or_waited};
-ghost use Rattle.display.specs.Tick.{Room, CanMove, asked_refusal, refused_load};
+ghost use Rattle.display.specs.Tick.{Room, CanMove, asked_refusal};
 
 use crate::search::slot_of;
 use crate::state::Display;
-use rules::{Cause, FREE, Happening, Load, TickRecord};
+use rules::{Cause, FREE, Happening, Load, Refusal, TickRecord};
 
-// What came of a tick: the number and detail of its refusal, or number 0, the tick's record, and the display after it.
-#[derive(Drop)]
+// What came of a tick that was not refused: its record, and the display after it.
+#[derive(Clone, Copy)]
 pub struct Ticked {
-    pub number: u32,
-    pub detail: u32,
     pub on_record: TickRecord,
     pub display: Display,
 }
@@ -41,38 +39,24 @@ fn held_or_none(slots: &[u16], symbol: u16) -> bool
     symbol == FREE || slot_of(slots, symbol) < slots.len()
 }
 
-// The first refusal of 10 to 12 that a load which is asked for meets; 0 where it meets none or none is asked for.
-pub fn load_refusal(slots: &[u16], d: Display, asked: Option<Load>) -> u32
+// The first refusal of 10 to 12 that a load which is asked for meets, if it meets one. The event is the load's place in the list.
+pub fn load_refusal(slots: &[u16], d: Display, asked: Option<Load>) -> Result<(), Refusal>
     ensures { (h : History) (job : Job) → job.slots ≡ length slots.now → result ≡ asked_refusal job asked (view slots.now h d) }
 {
     let Some(load) = asked else {
-        return 0;
+        return Ok(());
     };
+    let event = d.loads;
     if under_way(d) {
-        return 10;
+        return Err(Refusal::LoadUnderWay { event });
     }
     if beyond(slots, load.slot) {
-        return 11;
+        return Err(Refusal::NoSuchSlot { event });
     }
     if held_or_none(slots, load.symbol) {
-        return 12;
+        return Err(Refusal::SymbolHeld { event });
     }
-    0
-}
-
-// The tick of a load that is refused with this number. Nothing begins in it, and the display is as it was.
-pub fn refused_load(d: Display, number: u32) -> Ticked
-    ensures { result ≡ refused_load number d }
-{
-    Ticked {
-        number,
-        detail: d.loads,
-        on_record: TickRecord {
-            begun: None,
-            happening: Happening::Wait(Cause::Nothing),
-        },
-        display: d,
-    }
+    Ok(())
 }
 
 fn cause_of(d: Display, symbol: u16) -> Cause
@@ -122,28 +106,21 @@ pub fn draw_or_wait(
     asked: Option<Load>,
     symbol: u16,
     done: bool,
-) -> Ticked
+) -> Result<Ticked, Refusal>
     requires { CanMove slots.now d }
     ensures { result ≡ drawn_or_waited slots.now d asked symbol done }
 {
     let happening = happening_of(slots, d, symbol);
-    let on_record = TickRecord {
-        begun: asked,
-        happening,
-    };
     if is_stuck(happening, done) {
-        return Ticked {
-            number: 13,
-            detail: d.next as u32,
-            on_record,
-            display: d,
-        };
+        return Err(Refusal::EndlessWait {
+            draw: d.next as u32,
+        });
     }
-    let display = move_on(d, happening);
-    Ticked {
-        number: 0,
-        detail: 0,
-        on_record,
-        display,
-    }
+    Ok(Ticked {
+        on_record: TickRecord {
+            begun: asked,
+            happening,
+        },
+        display: move_on(d, happening),
+    })
 }
