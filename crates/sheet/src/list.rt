@@ -3,7 +3,7 @@ ghost use Rattle.std.specs.Prelude.{◌≡◌, ◌++◌, ◌+◌, ◌*◌, ◌�
 ghost use Rattle.rules.specs.LoadList.{event, event_at, head_size, event_size, read_event, event_bytes, put, put_head, put_event, put_number};
 ghost use Rattle.rules.specs.Refusals.{read_list};
 
-use crate::number::{byte_at, number16_at, number32_at, put32};
+use crate::number::{byte_at, number16_at, number32_at};
 use rules::{EventReading, ListReading, MOST_EVENTS};
 
 // The number of bytes of a list of this many events: a head, and an event to each.
@@ -51,18 +51,16 @@ pub fn read_event(part: &[u8]) -> EventReading
     }
 }
 
-// Writes a number of four bytes, a byte and a number of two over the first seven bytes.
-fn put_first(part: &mut [u8], long: u32, byte: u8, short: u16)
-    requires { event_size ≤ length part.old }
-    ensures { part.new ≡ event_bytes (event long byte short) ++ drop event_size part.old }
+// A number of four bytes, a byte and a number of two. A list's head and its events are all of this form.
+fn seven_bytes(long: u32, byte: u8, short: u16) -> [u8; 7]
+    ensures { result ≡ event_bytes (event long byte short) }
 {
-    put32(part, long);
-    part[4] = byte;
-    part[5] = (short / 256) as u8;
-    part[6] = (short % 256) as u8;
+    let [a, b, c, d] = long.to_be_bytes();
+    let [high, low] = short.to_be_bytes();
+    [a, b, c, d, byte, high, low]
 }
 
-// The same at a place of the room, if it is long enough. A list's head and its events are all of this form.
+// Writes them at a place of the room, if it is long enough.
 fn put_at(room: &mut [u8], at: u32, long: u32, byte: u8, short: u16) -> u32
     ensures number { result ≡ put_number at event_size room.old }
     ensures written { room.new ≡ put at (event_bytes (event long byte short)) room.old }
@@ -71,7 +69,7 @@ fn put_at(room: &mut [u8], at: u32, long: u32, byte: u8, short: u16) -> u32
     if room.len() < from + 7 {
         return 7;
     }
-    put_first(&mut room[from..], long, byte, short);
+    room[from..from + 7].copy_from_slice(&seven_bytes(long, byte, short));
     0
 }
 
