@@ -34,11 +34,6 @@ pub record NotedLines (text : List ℕ) (r : LinesFound) (row row' : List ℕ) :
   pub few : (l : List Event) → lines_of text ≡ lines l → length l ≤ most_events
   pub holds : (l : List Event) → lines_of text ≡ lines l → row' ≡ lent (list_bytes (map kept_event l)) row
 
--- The front of a row, and room for it.
-pub record CopyRoom (size : ℕ) (row room : List ℕ) : Type 0 where
-  pub there : size ≤ length row
-  pub enough : size ≤ length room
-
 -- What comes of events that were read, with this much room: 9 and 7 are left to be tested.
 abbrev pub handed : List Event → ℕ → Writing
 handed events room =

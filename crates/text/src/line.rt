@@ -33,23 +33,12 @@ pub enum LineFound {
     BadLine,
 }
 
-fn is_digit(byte: u8) -> bool
-    ensures { result ≡ is_digit byte }
-{
-    if 48 <= byte { byte <= 57 } else { false }
-}
-
 // One digit more after a number.
 fn with_digit(number: u32, byte: u8) -> u32
     requires { WithDigit number byte }
     ensures { result ≡ kept (10 * number + (byte - 48)) }
 {
-    let more = 10 * number + (byte - 48) as u32;
-    if LAST_TICK < more {
-        LAST_TICK + 1
-    } else {
-        more
-    }
+    (10 * number + (byte - b'0') as u32).min(LAST_TICK + 1)
 }
 
 // The digits from a place on, after those that made `sum`.
@@ -57,17 +46,18 @@ fn digits_at(text: &[u8], from: usize, sum: u32) -> Digits
     requires { sum ≤ last_tick + 1 }
     ensures { DigitsFound sum (drop from text.now) from result }
 {
-    let mut end = from;
     let mut number = sum;
-    while end < text.len() {
+    for end in from..text.len() {
         let byte = text[end];
-        if !is_digit(byte) {
+        if !byte.is_ascii_digit() {
             return Digits { end, number };
         }
         number = with_digit(number, byte);
-        end += 1;
     }
-    Digits { end, number }
+    Digits {
+        end: from.max(text.len()),
+        number,
+    }
 }
 
 // The number whose first digit is at a place. No digit may come after a zero, so a zero is a whole number.
@@ -75,13 +65,13 @@ fn number_at(text: &[u8], from: usize, first: u8) -> Digits
     requires { FirstDigit text.now from first }
     ensures { NumberFound (drop from text.now) from result }
 {
-    if first == 48 {
+    if first == b'0' {
         return Digits {
             end: from + 1,
             number: 0,
         };
     }
-    digits_at(text, from + 1, (first - 48) as u32)
+    digits_at(text, from + 1, (first - b'0') as u32)
 }
 
 // A number from a place on that ends with this byte.
@@ -93,7 +83,7 @@ fn field_at(text: &[u8], from: usize, stop: u8) -> FieldFound
         return FieldFound::NoField;
     }
     let first = text[from];
-    if !is_digit(first) {
+    if !first.is_ascii_digit() {
         return FieldFound::NoField;
     }
     let digits = number_at(text, from, first);

@@ -1,9 +1,9 @@
 // The reader: the load list of a text, in lent room. The text is gone through once; its list is made in a row of its own and handed out
 // when the last refusal is past.
-ghost use Rattle.std.specs.Prelude.{◌≡◌, ◌++◌, ◌≤◌, length, take, drop};
+ghost use Rattle.std.specs.Prelude.{◌≡◌, ◌≤◌, length};
 ghost use Rattle.rules.specs.Refusals.{lent};
 ghost use Rattle.rules.specs.Text.{read_text, written_of, bytes_of};
-ghost use Rattle.text.specs.Lists.{most_list, NotedLines, CopyRoom, HasList, HandsOut};
+ghost use Rattle.text.specs.Lists.{most_list, NotedLines, HasList, HandsOut};
 
 use crate::answer::{refusal, wrote};
 use crate::line::{LineFound, line_at};
@@ -48,18 +48,6 @@ fn note_lines(text: &[u8], row: &mut [u8]) -> LinesFound
     LinesFound::Lines(lines)
 }
 
-// Copies the first bytes of a row to the front of the room, and leaves the bytes after them alone.
-fn copy_bytes(row: &[u8], size: usize, room: &mut [u8])
-    requires { CopyRoom size row.now room.old }
-    ensures { room.new ≡ take size row.now ++ drop size room.old }
-{
-    let mut place: usize = 0;
-    while place < size {
-        room[place] = row[place];
-        place += 1;
-    }
-}
-
 // The list of this many events in the row, handed out where its ticks are in order and the room is long enough.
 fn hand_out(row: &[u8], count: u16, list: &mut [u8]) -> Written
     requires { HasList count row.now }
@@ -73,7 +61,7 @@ fn hand_out(row: &[u8], count: u16, list: &mut [u8]) -> Written
     if list.len() < size {
         return refusal(7, 0);
     }
-    copy_bytes(row, size, list);
+    list[..size].copy_from_slice(&row[..size]);
     wrote(size as u32)
 }
 

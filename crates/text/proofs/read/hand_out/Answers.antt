@@ -1,5 +1,5 @@
 -- The ticks are tested, then the room, and then the list is copied.
-use Rattle.std.proofs.Common.{arith}
+use Rattle.std.proofs.Common.{ℕ, List, ◌++◌, drop, ap, arith}
 use Rattle.text.proofs.Answers.{first_is, out_of_order, room_short, all_handed}
 use Rattle.text.proofs.read.hand_out.Goals as goal
 
@@ -22,4 +22,4 @@ returns c events many holds =
     c.list_size-size.ensures c.first_bad_tick-first.ensures in
     all_handed events c.args.count c.args.row.now many holds c.first_bad_tick-first.result found _ c.args.list.now c.if-first-count.false
     c.list_size-size.result _ c.list_size-size.ensures c.if-list-size.false (omega (arith, c.list_size-size.ensures, c.requires.there))
-    c.wrote.ensures c.copy_bytes.ensures
+    c.wrote.ensures (ap (λ (front : List ℕ). front ++ drop c.list_size-size.result c.args.list.now) c.copy_from_slice.ensures.after)
