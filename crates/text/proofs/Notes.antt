@@ -3,6 +3,7 @@ use Prim.Native.Nat.{ℕ, zero, suc, ◌+◌, ◌*◌, ◌-◌, ◌<◌, ◌≤�
 use native.Mathlib.Omega.{arith}
 use mathlib.Core.Path.{◌≡◌, refl, sym, ap, ◌∙◌}
 use mathlib.Core.List.{List, [], ◌∷◌, ◌++◌, map, map-append, append-nil, append_assoc}
+use Rattle.std.proofs.Common.{Some, None}
 use lib.ListN.{length, take, drop, length-append, length-map, length-drop, take-append-drop, drop_of_length-le}
 use lib.Seq.{drop_at, drop-drop, length-take-le}
 use Rattle.rules.specs.LoadList.{Event, event, most_events, event_at, event_bytes, events_bytes, head_bytes, list_bytes, put_head, put_event}
@@ -10,9 +11,10 @@ use Rattle.rules.specs.Refusals.{lent}
 use Rattle.rules.specs.Text.{LineReading, line, bad, TextReading, lines, bad_line, add_line, read_line, first_line, read_lines, lines_of}
 use Rattle.laws.proofs.RoundTrip.{length-events, length-list}
 use Rattle.laws.proofs.Writing.{put_after, put_front, length-put, events_snoc}
-use Rattle.text.specs.declared.line.LineFound.TheVariants.{Line, BadLine}
+use Rattle.text.specs.declared.line.Line.{Line}
 use Rattle.text.specs.declared.read.LinesFound.TheVariants.{Lines, FirstBad}
 use Rattle.text.specs.Found.{kept, line_found}
+use Rattle.text.proofs.Lines.{ending}
 use Rattle.text.specs.Lists.{most_list, kept_event, NotedLines}
 
 -- ---- What the reading of a text comes to after some lines
@@ -54,20 +56,21 @@ read_first left (b ∷ t) some = refl
 
 -- ---- What was found is what the definition finds
 
-as_bad : (from : ℕ) (l : LineReading) → BadLine ≡ line_found from l → l ≡ bad
+as_bad : (from : ℕ) (l : LineReading) → None ≡ line_found from l → l ≡ bad
 as_bad from bad e = refl
 as_bad from (line (event t q x) size) e = let z : ◌≡◌ {A = ℕ} 0 1 = cc in absurd (omega arith)
 
 data FoundAs (from tick slot symbol after : ℕ) : LineReading → Type 0 where
   found_as : {t size : ℕ} → tick ≡ kept t → after ≡ from + size → FoundAs from tick slot symbol after (line (event t slot symbol) size)
 
-as_line : (from tick slot symbol after : ℕ) (l : LineReading) → Line tick slot symbol after ≡ line_found from l
+as_line : (from tick slot symbol after : ℕ) (l : LineReading) → Some (ending tick slot symbol after) ≡ line_found from l
     → FoundAs from tick slot symbol after l
 as_line from tick slot symbol after bad e = let z : ◌≡◌ {A = ℕ} 0 1 = cc in absurd (omega arith)
 as_line from tick slot symbol after (line (event t q x) size) e =
-    let slots : q ≡ slot = cc in
-    let symbols : x ≡ symbol = cc in
-    rw (slots, symbols) (found_as {t = t} {size = size} (cc) (cc))
+    let same : ending tick slot symbol after ≡ ending (kept t) q x (from + size) = cc in
+    let slots : q ≡ slot = sym (ap (λ (l : Line). l.slot) same) in
+    let symbols : x ≡ symbol = sym (ap (λ (l : Line). l.symbol) same) in
+    rw (slots, symbols) (found_as {t = t} {size = size} (ap (λ (l : Line). l.tick) same) (ap (λ (l : Line). l.after) same))
 
 -- ---- Noting
 
@@ -164,10 +167,10 @@ module _ (text row : List ℕ) where
             let left : most_events - count ≡ suc (most_events - (count + 1)) = omega arith in
             rw left (read_first (most_events - (count + 1)) (drop at text) some_left)
 
-        pub bad_here : BadLine ≡ line_found at (read_line (drop at text)) → NotedLines text (FirstBad count) row row'
+        pub bad_here : None ≡ line_found at (read_line (drop at text)) → NotedLines text (FirstBad count) row row'
         bad_here e = stops (next ∙ rw (as_bad at (read_line (drop at text)) e))
 
-        pub one_noted : (tick slot symbol after : ℕ) → Line tick slot symbol after ≡ line_found at (read_line (drop at text))
+        pub one_noted : (tick slot symbol after : ℕ) → Some (ending tick slot symbol after) ≡ line_found at (read_line (drop at text))
             → LinesNoted (put_event count (event tick slot symbol) row') after (count + 1)
         one_noted tick slot symbol after e =
             by_line (read_line (drop at text)) refl (as_line at tick slot symbol after (read_line (drop at text)) e)

@@ -1,13 +1,11 @@
 -- What the code finds at a place of a text: the digits, a number with the byte after it, and a line, each with the place after it.
-use Rattle.std.specs.Prelude.{ℕ, ◌+◌, ◌<◌, ◌≤◌, min, ◌≡◌, true, false, List, length, get_or}
+use Rattle.std.specs.Prelude.{ℕ, Option, Some, None, ◌+◌, ◌<◌, ◌≤◌, min, ◌≡◌, true, false, List, length, get_or}
 use Rattle.rules.specs.declared.Written.{Written}
 use Rattle.rules.specs.LoadList.{event, last_tick}
 use Rattle.rules.specs.Text.{FieldReading, found, none, LineReading, line, bad, is_digit, digit_count, number_from}
 use Rattle.text.specs.declared.line.Digits.{Digits}
-use Rattle.text.specs.declared.line.FieldFound.{FieldFound}
-use Rattle.text.specs.declared.line.FieldFound.TheVariants.{Field, NoField}
-use Rattle.text.specs.declared.line.LineFound.{LineFound}
-use Rattle.text.specs.declared.line.LineFound.TheVariants.{Line, BadLine}
+use Rattle.text.specs.declared.line.Field.{Field}
+use Rattle.text.specs.declared.line.Line.{Line}
 
 -- A number as the code keeps it: one over the last tick is kept as the first one over it.
 abbrev pub kept : ℕ → ℕ
@@ -40,13 +38,13 @@ pub record Stop (byte : ℕ) : Type 0 where
   pub some : 0 < byte
   pub no_digit : is_digit byte ≡ false
 
-abbrev pub field_found : ℕ → FieldReading → FieldFound
-field_found from (found n size) = Field (kept n) (from + size)
-field_found from none = NoField
+abbrev pub field_found : ℕ → FieldReading → Option Field
+field_found from (found n size) = Some (record { number = kept n; after = from + size })
+field_found from none = None
 
-abbrev pub line_found : ℕ → LineReading → LineFound
-line_found from (line (event t q x) size) = Line (kept t) q x (from + size)
-line_found from bad = BadLine
+abbrev pub line_found : ℕ → LineReading → Option Line
+line_found from (line (event t q x) size) = Some (record { tick = kept t; slot = q; symbol = x; after = from + size })
+line_found from bad = None
 
 -- The answer to a call that wrote this many bytes.
 abbrev pub wrote_size : ℕ → Written

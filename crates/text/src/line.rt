@@ -14,23 +14,20 @@ pub struct Digits {
     pub number: u32,
 }
 
-// What reading finds at a place: a number and the place after its last byte, or none in the shape.
+// A number with the byte after it, and the place after that byte.
 #[derive(Drop)]
-pub enum FieldFound {
-    Field { number: u32, after: usize },
-    NoField,
+pub struct Field {
+    pub number: u32,
+    pub after: usize,
 }
 
-// The same of a line.
+// A line's tick, slot and symbol, and the place after the line.
 #[derive(Drop)]
-pub enum LineFound {
-    Line {
-        tick: u32,
-        slot: u8,
-        symbol: u16,
-        after: usize,
-    },
-    BadLine,
+pub struct Line {
+    pub tick: u32,
+    pub slot: u8,
+    pub symbol: u16,
+    pub after: usize,
 }
 
 // One digit more after a number.
@@ -74,70 +71,42 @@ fn number_at(text: &[u8], from: usize, first: u8) -> Digits
     digits_at(text, from + 1, (first - b'0') as u32)
 }
 
-// A number from a place on that ends with this byte.
-fn field_at(text: &[u8], from: usize, stop: u8) -> FieldFound
+// A number from a place on that ends with this byte, or none where there is no number in the shape.
+fn field_at(text: &[u8], from: usize, stop: u8) -> Option<Field>
     requires { Stop stop }
     ensures { result ≡ field_found from (read_field stop (drop from text.now)) }
 {
-    if text.len() <= from {
-        return FieldFound::NoField;
-    }
-    let first = text[from];
+    let first = *text.get(from)?;
     if !first.is_ascii_digit() {
-        return FieldFound::NoField;
+        return None;
     }
-    let digits = number_at(text, from, first);
-    let end = digits.end;
-    if text.len() <= end {
-        return FieldFound::NoField;
+    let Digits { end, number } = number_at(text, from, first);
+    if *text.get(end)? != stop {
+        return None;
     }
-    if text[end] != stop {
-        return FieldFound::NoField;
-    }
-    FieldFound::Field {
-        number: digits.number,
+    Some(Field {
+        number,
         after: end + 1,
-    }
+    })
 }
 
-// The line from a place on.
-pub fn line_at(text: &[u8], from: usize) -> LineFound
+// The line from a place on, or none where it is outside the shape.
+pub fn line_at(text: &[u8], from: usize) -> Option<Line>
     ensures { result ≡ line_found from (read_line (drop from text.now)) }
 {
-    let first = field_at(text, from, 32);
-    let FieldFound::Field {
-        number: tick,
-        after: slot_at,
-    } = first
-    else {
-        return LineFound::BadLine;
-    };
-    let second = field_at(text, slot_at, 32);
-    let FieldFound::Field {
-        number: slot,
-        after: symbol_at,
-    } = second
-    else {
-        return LineFound::BadLine;
-    };
-    if 255 < slot {
-        return LineFound::BadLine;
+    let tick = field_at(text, from, b' ')?;
+    let slot = field_at(text, tick.after, b' ')?;
+    if slot.number > 255 {
+        return None;
     }
-    let third = field_at(text, symbol_at, 10);
-    let FieldFound::Field {
-        number: symbol,
-        after,
-    } = third
-    else {
-        return LineFound::BadLine;
-    };
-    if 65535 < symbol {
-        return LineFound::BadLine;
+    let symbol = field_at(text, slot.after, b'\n')?;
+    if symbol.number > 65535 {
+        return None;
     }
-    LineFound::Line {
-        tick,
-        slot: slot as u8,
-        symbol: symbol as u16,
-        after,
-    }
+    Some(Line {
+        tick: tick.number,
+        slot: slot.number as u8,
+        symbol: symbol.number as u16,
+        after: symbol.after,
+    })
 }

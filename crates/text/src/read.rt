@@ -6,7 +6,7 @@ ghost use Rattle.rules.specs.Text.{read_text, written_of, bytes_of};
 ghost use Rattle.text.specs.Lists.{most_list, NotedLines, HasList, HandsOut};
 
 use crate::answer::{refusal, wrote};
-use crate::line::{LineFound, line_at};
+use crate::line::line_at;
 use rules::{MOST_EVENTS, Written};
 
 // The bytes of the longest list: a head and 4,096 events.
@@ -30,19 +30,12 @@ fn note_lines(text: &[u8], row: &mut [u8]) -> LinesFound
         if MOST_EVENTS <= lines {
             return LinesFound::FirstBad(lines);
         }
-        let reading = line_at(text, at);
-        let LineFound::Line {
-            tick,
-            slot,
-            symbol,
-            after,
-        } = reading
-        else {
+        let Some(line) = line_at(text, at) else {
             return LinesFound::FirstBad(lines);
         };
-        sheet::put_event(row, lines, tick, slot, symbol);
+        sheet::put_event(row, lines, line.tick, line.slot, line.symbol);
         lines += 1;
-        at = after;
+        at = line.after;
     }
     sheet::put_head(row, lines);
     LinesFound::Lines(lines)
