@@ -4,7 +4,7 @@
 #![tactic(auto)]
 
 use report::{say, say_counts, say_number};
-use rules::{Answer, CallReading};
+use rules::Answer;
 use std::io;
 use std::io::Write;
 
@@ -32,7 +32,7 @@ fn print_draws<W: Write>(
     slots: &[u8; 4096],
 ) -> io::Result<()> {
     let reading = sheet::read_call(job, rounds);
-    let CallReading::Taken(shape) = reading else {
+    let Ok(shape) = reading else {
         return Ok(());
     };
     for draw in 0..4096u16 {

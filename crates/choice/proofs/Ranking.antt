@@ -3,12 +3,13 @@ use Prim.Native.Nat.{ℕ, suc, ◌+◌, ◌-◌, ◌<◌, ◌≤◌}
 use native.Mathlib.Omega.{arith}
 use native.Mathlib.Numerals.{add-one}
 use mathlib.Core.Path.{◌≡◌, refl, sym, ap, ◌∙◌}
+use mathlib.Core.Bool.{false}
 use mathlib.Core.List.{List, [], ◌∷◌, ◌++◌, map, map-append}
 use lib.ListN.{length, get_or, take, drop, set, replicate, length-map, length-drop}
 use lib.Seq.{length-take-le, take-suc, take-length, take_at, get_or-take, get_or-drop}
 use lib.Dec.{eqb, ltb}
 use borrow.Author.Tests.{lt-ltb, eq-eqb, ne_eqb, ltb-true, ltb-false}
-use Rattle.rules.specs.Basics.{place}
+use Rattle.rules.specs.Basics.{place, stands}
 use Rattle.rules.specs.Job.{Job, free, most_slots}
 use Rattle.rules.specs.Plans.{rank, ranks_from, greatest}
 use Rattle.laws.proofs.Cases.{by_test}
@@ -120,19 +121,28 @@ module _ (slots row ranks : List ℕ) (ranked : Ranks slots row ranks) where
         within = rw ranks_size chosen.within;
       }
 
-  -- So the slot of the first greatest rank leads by the ranks of what the slots hold.
-  pub chosen_leads : (q : ℕ) → Greatest (take (length slots) ranks) q
-      → Leads (λ i. rank row (get_or slots i 0)) q (rank row (get_or slots q 0)) (length slots)
-  chosen_leads q chosen =
+  -- So the slot of the first greatest rank is there, has its own rank, and leads by the ranks of what the slots hold.
+  pub record Led (q : ℕ) : Type 0 where
+    pub inside : q < length slots
+    pub own : get_or ranks q 0 ≡ suc (rank row (get_or slots q 0))
+    pub leads : Leads (λ i. rank row (get_or slots i 0)) q (rank row (get_or slots q 0)) (length slots)
+
+  pub led : (q : ℕ) → Greatest (take (length slots) ranks) q → Led q
+  led q chosen =
       let size : length slots ≡ length (take (length slots) ranks) = ranks_size in
       let within : q < length slots = rw ranks_size chosen.within in
       let read : (i : ℕ) → i < length slots → get_or (take (length slots) ranks) i 0 ≡ suc (rank row (get_or slots i 0)) =
       λ i less. get_or-take (length slots) ranks i 0 less ∙ ranked_at i less in
       let l = search_leads (take (length slots) ranks) q chosen.first chosen.within in
       record {
-        above = λ i h. omega (arith, l.above i h, read i (omega arith), read q within);
-        below_none = λ i h. omega (arith, l.below_none i (omega arith), read i h, read q within);
-        own = omega arith;
+        inside = within;
+        own = ranked_at q within;
+        leads =
+            record {
+              above = λ i h. omega (arith, l.above i h, read i (omega arith), read q within);
+              below_none = λ i h. omega (arith, l.below_none i (omega arith), read i h, read q within);
+              own = omega arith;
+            };
       }
 
 -- What leads among all slots is chosen.
@@ -152,16 +162,17 @@ leads_chosen slots row q most upto within all l =
       within = within;
     }
 
--- A rank that is not found in a part of the ranks is that of no slot there.
-pub not_there : (ranks : List ℕ) (from count never r : ℕ) → r ≡ place never (take (count - from) (drop from ranks)) → count - from ≤ r
-    → count ≤ length ranks → (i : ℕ) → from ≤ i → i < count → get_or ranks i 0 ≡ never → ⊥
-not_there ranks from count never r found none fits i above below e =
+-- A rank that does not stand in a part of the ranks is that of no slot there.
+pub not_there : (ranks : List ℕ) (from count never : ℕ) → stands never (take (count - from) (drop from ranks)) ≡ false → count ≤ length ranks
+    → (i : ℕ) → from ≤ i → i < count → get_or ranks i 0 ≡ never → ⊥
+not_there ranks from count never none fits i above below e =
+    let part : List ℕ = take (count - from) (drop from ranks) in
     let back : from + (i - from) ≡ i = omega arith in
-    let size : length (take (count - from) (drop from ranks)) ≡ count - from =
-    length-take-le (count - from) (drop from ranks) (omega (arith, length-drop from ranks)) in
-    let there : get_or (take (count - from) (drop from ranks)) (i - from) 0 ≡ never =
+    let size : length part ≡ count - from = length-take-le (count - from) (drop from ranks) (omega (arith, length-drop from ranks)) in
+    let there : get_or part (i - from) 0 ≡ never =
     get_or-take (count - from) (drop from ranks) (i - from) 0 (omega arith) ∙ get_or-drop from ranks (i - from) 0 ∙ rw back e in
-    omega (arith, place_first never (take (count - from) (drop from ranks)) (i - from) (omega arith) there)
+    let absent : length part ≤ place never part = ltb-false (place never part) (length part) none in
+    omega (arith, place_first never part (i - from) (omega arith) there)
 
 -- ---- Both ways
 

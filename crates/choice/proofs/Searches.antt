@@ -1,53 +1,50 @@
--- The search for the first draw that no slot serves, and the one for a symbol's last draw, a draw at a time.
-use Prim.Native.Nat.{ℕ, suc, ◌+◌, ◌-◌, ◌<◌, ◌≤◌}
+-- The searches along a row: what a search of the library stops at is the first place by the definition.
+use Prim.Native.Nat.{ℕ, ◌<◌, ◌≤◌}
 use native.Mathlib.Omega.{arith}
 use native.Mathlib.Numerals.{add-one}
-use mathlib.Core.Path.{◌≡◌, sym, ap, ◌∙◌}
 use mathlib.Core.Bool.{true, false}
-use mathlib.Core.List.{List, reverse}
-use lib.ListN.{length, get_or, drop, drop_of_length-le, length-reverse}
-use lib.Seq.{drop-cons}
+use mathlib.Core.Path.{◌≡◌, refl, sym, ◌∙◌}
+use mathlib.Core.List.{List, [], ◌∷◌}
+use lib.ListN.{length}
+use Rattle.std.specs.Prelude.{Option, MatchOption, unwrap_or}
+use Rattle.std.specs.List.{AllWithin, HoldsAt}
+use Rattle.std.proofs.lemmas.Iterator.{index_from_first}
 use Rattle.rules.specs.Basics.{place, stands}
 use Rattle.rules.specs.Plans.{missing}
-use Rattle.laws.proofs.Rows.{get_d_reverse}
-use Rattle.laws.proofs.Places.{place_here, place_further, place_past}
+use Rattle.laws.proofs.Cases.{by_test}
+use Rattle.laws.proofs.Search.{place_within, place_cons_here, place_cons_further}
+use Rattle.display.specs.Search.{Found}
+use Rattle.choice.specs.Rows.{Missed}
 
-module _ (slots rest : List ℕ) (at : ℕ) where
-  pub missing_here : at < length rest → stands (get_or rest at 0) slots ≡ false → missing slots (drop at rest) ≡ 0
-  unfolding missing
-  missing_here within e = ap (missing slots) (drop-cons rest at 0 within) ∙ rw e
+-- The first of a row at which a search stops, if it stops at all.
+abbrev First : (Stops Passes : ℕ → Type 0) → List ℕ → Option ℕ → Type 0
+First Stops Passes row r =
+    MatchOption r (AllWithin Passes row 0 (length row)) (λ i. (i < length row) × HoldsAt Stops row i × AllWithin Passes row 0 i)
 
-  pub missing_further : at < length rest → stands (get_or rest at 0) slots ≡ true
-      → missing slots (drop at rest) ≡ suc (missing slots (drop (at + 1) rest))
-  unfolding missing
-  missing_further within e = ap (missing slots) (drop-cons rest at 0 within) ∙ rw (e, add-one)
+-- A search for x.
+pub found_first : (x : ℕ) (row : List ℕ) (r : Option ℕ) (n : ℕ) → First (λ y. y ≡ x) (λ y. y ≡ x → ⊥) row r → n ≡ unwrap_or r (length row)
+    → Found x row n
+unfolding place
+found_first x row r n first is =
+    let found : place x row ≡ unwrap_or r (length row) =
+    index_from_first (place x) (λ y. y ≡ x) (λ y. y ≡ x → ⊥) refl (λ y l e. place_cons_here x y l (sym e))
+    (λ y l other. place_cons_further x y l (λ e. other (sym e)) ∙ sym (add-one (place x l))) row r first in
+    let within = place_within x row in
+    record { first = omega arith; within = omega arith }
 
-  pub missing_past : length rest ≤ at → missing slots (drop at rest) ≡ 0
-  unfolding missing
-  missing_past over = ap (missing slots) (drop_of_length-le rest over)
+-- A search for a draw that no slot serves.
+missing_within : (slots rest : List ℕ) → missing slots rest ≤ length rest
+unfolding missing
+missing_within slots [] = omega arith
+missing_within slots (y ∷ rest) =
+    by_test (stands y slots) (λ held. rw held (omega (arith, missing_within slots rest))) (λ absent. rw absent (omega arith))
 
--- ---- Back along the draws made
-
-module _ (made : List ℕ) (x : ℕ) where
-  -- In the latest draws, this many, x is not drawn.
-  abbrev pub NotSince : ℕ → Type 0
-  NotSince ago = place x (reverse made) ≡ ago + place x (drop ago (reverse made))
-
-  module _ (ago : ℕ) (since : NotSince ago) where
-    -- The draw before these is of x, or it is not.
-    module _ (within : ago < length made) where
-      read : get_or (reverse made) ago 0 ≡ get_or made (length made - 1 - ago) 0
-      read = get_d_reverse made ago within
-
-      there : ago < length (reverse made)
-      there = rw (length-reverse made) within
-
-      pub since_here : get_or made (length made - 1 - ago) 0 ≡ x → place x (reverse made) ≡ ago
-      since_here e = omega (arith, place_here x (reverse made) ago there (read ∙ e))
-
-      pub since_further : (get_or made (length made - 1 - ago) 0 ≡ x → ⊥) → NotSince (ago + 1)
-      since_further other = omega (arith, place_further x (reverse made) ago there (λ e. other (sym read ∙ e)))
-
-    -- There is none before them.
-    pub since_past : length made ≤ ago → place x (reverse made) ≡ ago
-    since_past over = omega (arith, place_past x (reverse made) ago (rw (length-reverse made) over))
+pub missed_first : (slots rest : List ℕ) (r : Option ℕ) (n : ℕ) → First (λ y. stands y slots ≡ false) (λ y. stands y slots ≡ true) rest r
+    → n ≡ unwrap_or r (length rest) → Missed slots rest n
+unfolding missing
+missed_first slots rest r n first is =
+    let found : missing slots rest ≡ unwrap_or r (length rest) =
+    index_from_first (missing slots) (λ y. stands y slots ≡ false) (λ y. stands y slots ≡ true) refl (λ y l absent. rw absent)
+    (λ y l held. rw held (sym (add-one (missing slots l)))) rest r first in
+    let within = missing_within slots rest in
+    record { first = omega arith; within = omega arith }

@@ -5,8 +5,7 @@ ghost use Rattle.rules.specs.Job.{most_draws};
 ghost use Rattle.rules.specs.Plans.{rank};
 ghost use Rattle.choice.specs.Ranks.{WithinLimits, SomeRanks, Ranks, Greatest, Chosen};
 
-use crate::search::last_draw;
-use display::slot_of;
+use crate::search::{last_draw, served};
 use rules::{FREE, MOST_SLOTS};
 
 // The ranks along the draws that remain. A slot ranks by the place at which its symbol first comes up, where the search for it is left.
@@ -17,9 +16,7 @@ pub fn ranks_of(slots: &[u16], rest: &[u16]) -> [u16; MOST_SLOTS as usize]
     ensures { Ranks slots.now rest.now result }
 {
     let mut ranks = [0; MOST_SLOTS as usize];
-    let mut slot: usize = 0;
-    while slot < slots.len() {
-        let symbol = slots[slot];
+    for (slot, &symbol) in slots.iter().enumerate() {
         let mut at: usize = 0;
         let next = loop {
             if symbol == FREE {
@@ -34,7 +31,6 @@ pub fn ranks_of(slots: &[u16], rest: &[u16]) -> [u16; MOST_SLOTS as usize]
             at += 1;
         };
         ranks[slot] = next as u16 + 1;
-        slot += 1;
     }
     ranks
 }
@@ -56,10 +52,8 @@ fn ranks_back(slots: &[u16], made: &[u16]) -> [u16; MOST_SLOTS as usize]
     ensures { Ranks slots.now (reverse made.now) result }
 {
     let mut ranks = [0; MOST_SLOTS as usize];
-    let mut slot: usize = 0;
-    while slot < slots.len() {
-        ranks[slot] = rank_back(slots[slot], made);
-        slot += 1;
+    for (slot, &symbol) in slots.iter().enumerate() {
+        ranks[slot] = rank_back(symbol, made);
     }
     ranks
 }
@@ -69,18 +63,15 @@ pub fn first_greatest(ranks: &[u16]) -> u8
     requires { SomeRanks ranks.now }
     ensures { Greatest ranks.now result }
 {
-    let mut best: u8 = 0;
-    let mut most: u16 = 0;
-    let mut slot: u8 = 0;
-    while (slot as usize) < ranks.len() {
-        let rank = ranks[slot as usize];
+    let mut best = 0;
+    let mut most = 0;
+    for (slot, &rank) in ranks.iter().enumerate() {
         if most < rank {
             most = rank;
             best = slot;
         }
-        slot += 1;
     }
-    best
+    best as u8
 }
 
 // The slot whose content comes up furthest back along the draws made.
@@ -107,21 +98,19 @@ pub fn free_first(slots: &[u16], rest: &[u16], made: &[u16]) -> u8
         return first;
     }
     let from = first as usize + 1;
-    if slot_of(&ranks[from..count], never) == count - from {
+    if !served(&ranks[from..count], never) {
         return first;
     }
-    let mut best = first;
-    let mut most = last_draw(made, slots[first as usize]);
-    let mut slot = first + 1;
-    while (slot as usize) < count {
-        if ranks[slot as usize] == never {
-            let ago = last_draw(made, slots[slot as usize]);
+    let mut best = first as usize;
+    let mut most = last_draw(made, slots[best]);
+    for slot in from..count {
+        if ranks[slot] == never {
+            let ago = last_draw(made, slots[slot]);
             if most < ago {
                 most = ago;
                 best = slot;
             }
         }
-        slot += 1;
     }
-    best
+    best as u8
 }

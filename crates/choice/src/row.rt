@@ -12,10 +12,8 @@ pub fn row_of(job: &[u8], shape: Unrolled) -> [u16; MOST_DRAWS as usize]
     ensures { result ≡ row_of (call job.now shape.rounds) }
 {
     let mut row = [0; MOST_DRAWS as usize];
-    let mut place: u16 = 0;
-    while place < shape.draws {
+    for place in 0..shape.draws {
         row[place as usize] = sheet::draw_symbol(job, shape, place);
-        place += 1;
     }
     row
 }

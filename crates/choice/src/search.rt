@@ -1,5 +1,6 @@
 // The searches of the plans along a row of draws: a symbol's next draw, its last draw, and the first draw that no slot serves.
-ghost use Rattle.std.specs.Prelude.{reverse};
+ghost use Rattle.std.specs.Prelude.{◌≡◌, reverse};
+ghost use Rattle.rules.specs.Basics.{stands};
 ghost use Rattle.display.specs.Search.{Found};
 ghost use Rattle.choice.specs.Rows.{Missed};
 
@@ -9,40 +10,33 @@ use display::slot_of;
 pub fn next_draw(rest: &[u16], symbol: u16) -> usize
     ensures { Found symbol rest.now result }
 {
-    let mut at = 0;
-    while at < rest.len() {
-        if rest[at] == symbol {
-            return at;
-        }
-        at += 1;
-    }
-    at
+    rest.iter()
+        .position(|draw| *draw == symbol)
+        .unwrap_or(rest.len())
 }
 
 // How many draws ago the symbol was last drawn, 0 for the latest draw made, or the number of draws made where it was not drawn.
 pub fn last_draw(made: &[u16], symbol: u16) -> usize
     ensures { Found symbol (reverse made.now) result }
 {
-    let mut ago = 0;
-    while ago < made.len() {
-        if made[made.len() - 1 - ago] == symbol {
-            return ago;
-        }
-        ago += 1;
-    }
-    ago
+    made.iter()
+        .rev()
+        .position(|draw| *draw == symbol)
+        .unwrap_or(made.len())
+}
+
+// Whether a slot holds the symbol.
+pub fn served(slots: &[u16], symbol: u16) -> bool
+    ensures { result ≡ stands symbol slots.now }
+{
+    slot_of(slots, symbol) < slots.len()
 }
 
 // The first of the draws that remain whose symbol is in no slot, or the number of them.
 pub fn missing(slots: &[u16], rest: &[u16]) -> usize
     ensures { Missed slots.now rest.now result }
 {
-    let mut at = 0;
-    while at < rest.len() {
-        if slot_of(slots, rest[at]) == slots.len() {
-            return at;
-        }
-        at += 1;
-    }
-    at
+    rest.iter()
+        .position(|draw| !served(slots, *draw))
+        .unwrap_or(rest.len())
 }

@@ -2,18 +2,17 @@
 use Prim.Native.Nat.{ℕ, zero, suc, ◌+◌, ◌-◌, ◌<◌, ◌≤◌, ◌*◌, ◌%◌}
 use native.Mathlib.Omega.{arith}
 use mathlib.Core.Path.{◌≡◌, refl, sym, ap, ◌∙◌}
-use mathlib.Core.Bool.{true, false, cond}
+use mathlib.Core.Bool.{true, false}
 use mathlib.Core.List.{List, [], ◌∷◌}
 use lib.ListN.{length, get_or, drop}
-use lib.Dec.{leb}
-use borrow.Author.Tests.{eq-eqb, le-leb, lt-leb}
-use Rattle.rules.specs.declared.MaybeLoad.{MaybeLoad}
-use Rattle.rules.specs.declared.MaybeLoad.TheVariants.{NoLoad}
+use borrow.Author.Tests.{eq-eqb}
+use Rattle.std.specs.Prelude.{Option, None}
+use Rattle.rules.specs.declared.Load.{Load}
 use Rattle.rules.specs.declared.Unrolled.{Unrolled}
 use Rattle.rules.specs.Basics.{number16}
 use Rattle.rules.specs.Job.{Job, Call, starting_symbols, draws_of, draws_at, job_of}
 use Rattle.rules.specs.LoadList.{last_tick}
-use Rattle.rules.specs.Display.{State, Rule, Loaded, loaded, going, refused, then, start, land, idle, beginning, happened, record_of, tick}
+use Rattle.rules.specs.Display.{load, State, Rule, Loaded, loaded, going, refused, then, start, land, idle, beginning, happened, record_of, tick}
 use Rattle.rules.specs.Plans.{asking, earliest, opt, run_plan, begun_in, rule_of}
 use Rattle.rules.specs.Refusals.{in_time}
 use Rattle.laws.proofs.Rows.{length-snoc}
@@ -32,6 +31,7 @@ use Rattle.display.proofs.Stretches.{Quiet}
 use Rattle.display.proofs.Going.{Going, going_start, going_done, going_over, going_late, going_more, going_refused, going_on}
 use Rattle.choice.specs.declared.ask.Order.{Order}
 use Rattle.choice.specs.Asks.{order_asks, asks_by, Asked}
+use Rattle.planner.specs.Loads.{first_loads}
 use Rattle.planner.specs.Runs.{LoadUnderWay}
 use Rattle.planner.proofs.LoadRow.{RowKept}
 
@@ -44,7 +44,7 @@ same_tick : (plan : ℕ) (job : Job) (order : Order) (s : State)
 unfolding tick
 same_tick zero job order s e = refl
 same_tick (suc zero) job order s e =
-    ap (λ (x : MaybeLoad). then (beginning job x (land s)) (λ b. happened (record_of x b).happening true b)) (e refl)
+    ap (λ (x : Option Load). then (beginning job x (land s)) (λ b. happened (record_of x b).happening true b)) (e refl)
 same_tick (suc (suc zero)) job order s e = refl
 same_tick (suc (suc (suc plan))) job order s e = refl
 
@@ -59,7 +59,7 @@ ruled plan job order held held' d r ordered ticks =
     }
 
 -- What is asked for with the landed display at hand is what the plan asks for in its state.
-pub asked_landed : {asked : Call} {shape : Unrolled} (plan : ℕ) (order : Order) (row held : List ℕ) (d l : Display) (symbol : ℕ) (load : MaybeLoad)
+pub asked_landed : {asked : Call} {shape : Unrolled} (plan : ℕ) (order : Order) (row held : List ℕ) (d l : Display) (symbol : ℕ) (load : Option Load)
     → Limits asked shape
     → LandKeeps d l
     → d.next < shape.draws
@@ -80,11 +80,11 @@ asked_landed {asked} plan order row held d l symbol load limits kept within read
     }
 
 -- While a load is under way no plan asks for another.
-earliest_busy : (l : List Loaded) (s : State) → idle s.loading ≡ false → earliest l s ≡ NoLoad
+earliest_busy : (l : List Loaded) (s : State) → idle s.loading ≡ false → earliest l s ≡ None
 earliest_busy [] s busy = refl
 earliest_busy (loaded t d q x ∷ later) s busy = rw busy
 
-rule_busy : (plan : ℕ) (job : Job) (s : State) → idle s.loading ≡ false → (rule_of job plan).asks s ≡ NoLoad
+rule_busy : (plan : ℕ) (job : Job) (s : State) → idle s.loading ≡ false → (rule_of job plan).asks s ≡ None
 rule_busy zero job s busy = rw busy
 rule_busy (suc zero) job s busy = earliest_busy (drop s.loads (begun_in (run_plan job (opt job)))) s busy
 rule_busy (suc (suc zero)) job s busy = rw busy
@@ -124,6 +124,15 @@ pub record MidRun (plan : ℕ) (asked : Call) (size orders : ℕ) (held loads : 
   pub walking : Walking (job_of asked) (rule_of (job_of asked) plan) held d history
   pub row : RowKept plan asked orders history.begun d.loads loads
 
+-- A tick by what the order and the plan ask for is a tick by the plan: the row has the orders that are still to come.
+pub by_plan : (plan : ℕ) (asked : Call) (orders : ℕ) (loads : List ℕ) (held held' : List ℕ) (d : Display) (order : Order) (r : Ticked)
+    {begun : List Loaded} → RowKept plan asked orders begun d.loads loads
+    → ((s : State) → order_asks order s ≡ earliest (drop d.loads (first_loads orders loads)) s)
+    → Ticks (job_of asked) (asking (asks_by plan (job_of asked) order)) held held' d r
+    → Ticks (job_of asked) (rule_of (job_of asked) plan) held held' d r
+by_plan plan asked orders loads held held' d order r {begun} kept ordered ticks =
+    ruled plan (job_of asked) order held held' d r (λ one s. ordered s ∙ ap (λ (o : List Loaded). earliest o s) (kept.to_come one)) ticks
+
 -- The loop begins at the start of the rules.
 pub walking_first : (asked : Call) (rule : Rule) (held : List ℕ) (d : Display)
     → held ≡ starting_symbols asked.job
@@ -153,25 +162,18 @@ module _ (job : Job) (rule : Rule) where
 
   module _ (held : List ℕ) (d : Display) (h : History) (w : Walking job rule held d h) where
     -- The loop ends where no draw remains, where no tick is left, or where a tick is refused.
-    pub ends_over : length job.draws ≤ d.next
-        → in_time (run_plan job rule) ≡ cond (leb (length job.draws) d.next) (going (view held h d)) (refused 15 0)
+    pub ends_over : length job.draws ≤ d.next → in_time (run_plan job rule) ≡ going (view held h d)
     ends_over over =
-        ap in_time (going_over job rule last_tick held d h w.along over)
-        ∙ rw (going_done job rule last_tick held d h w.along over, le-leb (length job.draws) d.next over)
+        ap in_time (going_over job rule last_tick held d h w.along over) ∙ rw (going_done job rule last_tick held d h w.along over)
 
     module _ (within : d.next < length job.draws) where
-      pub ends_late : last_tick ≤ d.tick
-          → in_time (run_plan job rule) ≡ cond (leb (length job.draws) d.next) (going (view held h d)) (refused 15 0)
+      pub ends_late : last_tick ≤ d.tick → in_time (run_plan job rule) ≡ refused 15 0
       ends_late late =
-          ap in_time (going_late job rule last_tick held d h w.along late)
-          ∙ rw (going_more job rule last_tick held d h w.along within, lt-leb (length job.draws) d.next within)
+          ap in_time (going_late job rule last_tick held d h w.along late) ∙ rw (going_more job rule last_tick held d h w.along within)
 
       module _ (early : d.tick < last_tick) (held' : List ℕ) (r : Ticked) (ticks : Ticks job rule held held' d r) where
-        pub ends_refused : (r.number ≡ 0 → ⊥)
-            → in_time (run_plan job rule) ≡ cond (leb (length job.draws) d.next) (going (view held h d)) (refused 15 0)
-        ends_refused some =
-            ap in_time (going_refused job rule last_tick held d h w.along within early held' r ticks some)
-            ∙ rw (lt-leb (length job.draws) d.next within)
+        pub ends_refused : (r.number ≡ 0 → ⊥) → in_time (run_plan job rule) ≡ refused 15 0
+        ends_refused some = ap in_time (going_refused job rule last_tick held d h w.along within early held' r ticks some)
 
         -- Otherwise it goes on, after the waits that follow the tick.
         module _ (went : r.number ≡ 0) (later : Display)

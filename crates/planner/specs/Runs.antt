@@ -1,7 +1,6 @@
 -- What a tick of a plan, the waits after it and a whole run ask for and ensure, and what comes of a plan.
-use Rattle.std.specs.Prelude.{ℕ, ◌+◌, ◌*◌, ◌-◌, ◌≤◌, ◌<◌, ◌≡◌, cond, List, length}
+use Rattle.std.specs.Prelude.{ℕ, ◌+◌, ◌*◌, ◌-◌, ◌≤◌, ◌<◌, ◌≡◌, List, length, Option, MatchOption, Ok}
 use Rattle.rules.specs.declared.Answer.{Answer}
-use Rattle.rules.specs.declared.CallReading.TheVariants.{Taken}
 use Rattle.rules.specs.declared.Unrolled.{Unrolled}
 use Rattle.rules.specs.Job.{Call, starting_symbols, draws_of, job_of, most_draws}
 use Rattle.rules.specs.LoadList.{head_size, event_size}
@@ -12,7 +11,6 @@ use Rattle.laws.specs.Limits.{Limits}
 use Rattle.display.specs.Tick.{Room}
 use Rattle.display.specs.View.{History, view}
 use Rattle.display.specs.declared.state.Display.{Display}
-use Rattle.planner.specs.declared.run.Ran.{Ran}
 use Rattle.planner.specs.Loads.{first_loads}
 
 -- What a tick of a plan starts from: the row of the draws, as many slots as the job has, counts that can go up by one, and a draw that
@@ -32,7 +30,7 @@ pub record LoadUnderWay (d : Display) (m : ℕ) : Type 0 where
 
 -- A job that was taken with this shape, and a row of as many places as a job has draws at most.
 pub record HasPlaces (asked : Call) (shape : Unrolled) (loads : List ℕ) : Type 0 where
-  pub taken : read_call asked ≡ Taken shape
+  pub taken : read_call asked ≡ Ok shape
   pub places : length loads ≡ most_draws
 
 -- What the run of a plan comes to: its last state, or refusal 15 where that is not reached in time.
@@ -55,18 +53,22 @@ pub record FromStart (plan : ℕ) (asked : Call) (shape : Unrolled) (row held : 
   pub prepared : Prepared plan asked shape row orders loads
   pub starts : held ≡ starting_symbols asked.job
 
--- What came of the run of a plan: it is over, with this display, these slots and this history, or refused with 15. The loads that it
--- began, at most one to a draw, are the first of the row.
-pub record Ended (plan : ℕ) (asked : Call) (r : Ran) (loads : List ℕ) : Type 0 where
+-- The run of a plan is over at this display, with these slots and this history. The loads that it began, at most one to a draw, are the
+-- first of the row.
+pub record Over (plan : ℕ) (asked : Call) (loads : List ℕ) (d : Display) : Type 0 where
   pub held : List ℕ
   pub history : History
-  pub ends : run_of asked plan ≡ cond r.over (going (view held history r.display)) (refused 15 0)
-  pub noted : history.begun ≡ first_loads r.display.loads loads
-  pub few : r.display.loads ≤ length (draws_of asked)
+  pub ends : run_of asked plan ≡ going (view held history d)
+  pub noted : history.begun ≡ first_loads d.loads loads
+  pub few : d.loads ≤ length (draws_of asked)
+
+-- What came of it: it is over at a display, or refused with 15.
+abbrev pub Ended : ℕ → Call → Option Display → List ℕ → Type 0
+Ended plan asked r loads = MatchOption r (run_of asked plan ≡ refused 15 0) (Over plan asked loads)
 
 -- A job that was taken with this shape, and room for a list of as many events as draws.
 pub record HasRoom (asked : Call) (shape : Unrolled) (room : List ℕ) : Type 0 where
-  pub taken : read_call asked ≡ Taken shape
+  pub taken : read_call asked ≡ Ok shape
   pub enough : head_size + event_size * shape.draws ≤ length room
 
 -- The answer to the run of a plan, and what the lent room holds then.

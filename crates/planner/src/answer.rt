@@ -6,11 +6,11 @@ ghost use Rattle.rules.specs.Plans.{last_plan};
 ghost use Rattle.rules.specs.Refusals.{planned, answer_of, written_by, lent};
 ghost use Rattle.planner.specs.Runs.{HasPlaces, Prepared, Ended, HasRoom, CarriedOut};
 
-use crate::run::{Ran, run_plan};
+use crate::run::run_plan;
 use crate::write::write_list;
 use choice::row_of;
-use display::{accepted, refusal};
-use rules::{Answer, CallReading, MOST_DRAWS, Unrolled};
+use display::{Display, accepted, refusal};
+use rules::{Answer, MOST_DRAWS, Unrolled};
 
 // The run of a plan from the start of the job.
 fn run_from_start(
@@ -20,7 +20,7 @@ fn run_from_start(
     row: &[u16],
     orders: u32,
     loads: &mut [u64],
-) -> Ran
+) -> Option<Display>
     requires { Prepared plan (call job.now shape.rounds) shape row.now orders loads.old }
     ensures { Ended plan (call job.now shape.rounds) result loads.new }
 {
@@ -30,7 +30,7 @@ fn run_from_start(
 }
 
 // The run of a plan of a job that was taken. Conservative works off the loads of opt, so opt runs first.
-fn run_of(plan: u32, job: &[u8], shape: Unrolled, loads: &mut [u64]) -> Ran
+fn run_of(plan: u32, job: &[u8], shape: Unrolled, loads: &mut [u64]) -> Option<Display>
     requires { HasPlaces (call job.now shape.rounds) shape loads.old }
     ensures { Ended plan (call job.now shape.rounds) result loads.new }
 {
@@ -40,9 +40,8 @@ fn run_of(plan: u32, job: &[u8], shape: Unrolled, loads: &mut [u64]) -> Ran
     if plan != 1 {
         return run_from_start(plan, job, shape, row, 0, loads);
     }
-    let opt = run_from_start(2, job, shape, row, 0, loads);
-    let d = opt.display;
-    run_from_start(1, job, shape, row, d.loads, loads)
+    let opt = run_from_start(2, job, shape, row, 0, loads)?;
+    run_from_start(1, job, shape, row, opt.loads, loads)
 }
 
 // 6. No plan has this number.
@@ -65,13 +64,11 @@ fn carry_out(job: &[u8], shape: Unrolled, plan: u32, room: &mut [u8]) -> Answer
     ensures { CarriedOut (call job.now shape.rounds) plan result room.old room.new }
 {
     let mut loads = [0; MOST_DRAWS as usize];
-    let ran = run_of(plan, job, shape, &mut loads);
-    if ran.over {
-        let d = ran.display;
-        write_list(room, d.loads as u16, &loads);
-        return accepted(d);
-    }
-    refusal(15, 0)
+    let Some(d) = run_of(plan, job, shape, &mut loads) else {
+        return refusal(15, 0);
+    };
+    write_list(room, d.loads as u16, &loads);
+    accepted(d)
 }
 
 // Plans this many rounds of the job and writes the list from the room's first byte on. Where the plan is refused, the room is as it was.
@@ -80,7 +77,7 @@ pub fn plan(job: &[u8], plan: u32, rounds: u32, room: &mut [u8]) -> Answer
     ensures writes { room.new ≡ lent (written_by (planned (call job.now rounds) plan (length room.old))) room.old }
 {
     let reading = sheet::read_call(job, rounds);
-    let CallReading::Taken(shape) = reading else {
+    let Ok(shape) = reading else {
         return refusal(sheet::call_number(reading), 0);
     };
     if unknown(plan) {

@@ -46,21 +46,14 @@ fn after_waits(d: Display, happening: Happening) -> Display
     ensures { Rested (LoadUnderWay d) last_tick happening d result }
 {
     match happening {
-        Happening::Draw { slot: _ } => d,
+        Happening::Draw { .. } => d,
         Happening::Wait(_) => pass_waits(d, smaller(LAST_TICK - d.tick, before_end(d))),
     }
 }
 
-// How a run ended: whether every draw was made, and the display at the end.
-#[derive(Drop)]
-pub struct Ran {
-    pub over: bool,
-    pub display: Display,
-}
-
-// The run of a plan from the starting symbols in the slots to its last draw, or to the last tick that a list can name. The loads that
-// it begins are noted in `loads`. For conservative the first `orders` loads of that row are those of opt: each is read before
-// the load of the same number takes its place.
+// The run of a plan from the starting symbols in the slots to its last draw: the display at its end, or none where the last tick that a
+// list can name comes first. The loads that it begins are noted in `loads`. For conservative the first `orders` loads of that row are
+// those of opt: each is read before the load of the same number takes its place.
 pub fn run_plan(
     plan: u32,
     job: &[u8],
@@ -69,35 +62,22 @@ pub fn run_plan(
     held: &mut [u16],
     orders: u32,
     loads: &mut [u64],
-) -> Ran
+) -> Option<Display>
     requires { FromStart plan (call job.now shape.rounds) shape row.now held.old orders loads.old }
     ensures { Ended plan (call job.now shape.rounds) result loads.new }
 {
     let mut d = start();
-    loop {
-        let tick = d.tick;
-        let next = d.next;
-        let at = d.loads;
-        if shape.draws <= next {
-            break;
+    while d.next < shape.draws {
+        if LAST_TICK <= d.tick {
+            return None;
         }
-        if LAST_TICK <= tick {
-            break;
-        }
-        let order = order_at(loads, orders, at);
+        let order = order_at(loads, orders, d.loads);
         let ticked = plan_tick(plan, job, shape, row, held, d, order);
         if ticked.number != 0 {
-            break;
+            return None;
         }
-        let on_record = ticked.on_record;
-        let begun = on_record.begun;
-        let happening = on_record.happening;
-        note(loads, at, tick, next, begun);
-        let later = ticked.display;
-        d = after_waits(later, happening);
+        note(loads, d.loads, d.tick, d.next, ticked.on_record.begun);
+        d = after_waits(ticked.display, ticked.on_record.happening);
     }
-    Ran {
-        over: shape.draws <= d.next,
-        display: d,
-    }
+    Some(d)
 }

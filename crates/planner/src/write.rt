@@ -12,10 +12,8 @@ pub fn write_list(room: &mut [u8], count: u16, loads: &[u64])
     ensures { room.new ≡ lent (list_bytes (map event_of (first_loads count loads.now))) room.old }
 {
     sheet::put_head(room, count);
-    let mut index: u16 = 0;
-    while index < count {
+    for index in 0..count {
         let load = load_at(loads, index as usize);
         sheet::put_event(room, index, load.tick, load.slot, load.symbol);
-        index += 1;
     }
 }

@@ -1,7 +1,7 @@
 -- What the code finds at a place of a text: the digits, a number with the byte after it, and a line, each with the place after it.
 use Rattle.std.specs.Prelude.{ℕ, Option, Some, None, ◌+◌, ◌<◌, ◌≤◌, min, ◌≡◌, true, false, List, length, get_or}
 use Rattle.rules.specs.declared.Written.{Written}
-use Rattle.rules.specs.LoadList.{event, last_tick}
+use Rattle.rules.specs.LoadList.{last_tick}
 use Rattle.rules.specs.Text.{FieldReading, found, none, LineReading, line, bad, is_digit, digit_count, number_from}
 use Rattle.text.specs.declared.line.Digits.{Digits}
 use Rattle.text.specs.declared.line.Field.{Field}
@@ -43,7 +43,7 @@ field_found from (found n size) = Some (record { number = kept n; after = from +
 field_found from none = None
 
 abbrev pub line_found : ℕ → LineReading → Option Line
-line_found from (line (event t q x) size) = Some (record { tick = kept t; slot = q; symbol = x; after = from + size })
+line_found from (line e size) = Some (record { tick = kept e.tick; slot = e.slot; symbol = e.symbol; after = from + size })
 line_found from bad = None
 
 -- The answer to a call that wrote this many bytes.

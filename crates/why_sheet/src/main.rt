@@ -6,22 +6,22 @@
 #![tactic(auto)]
 
 use report::{say, say_number};
-use rules::{Account, Brought, CallReading, Parts, TakenOut};
+use rules::{Account, Parts};
 use std::io;
 use std::io::Write;
 
 // Each of these answers whether all of it was written; the first write that fails is the last that is tried.
-fn say_brought<W: Write>(out: &mut W, brought: Brought) -> io::Result<()> {
+fn say_brought<W: Write>(out: &mut W, brought: Option<u32>) -> io::Result<()> {
     match brought {
-        Brought::BroughtBy(event) => say_number(out, event),
-        Brought::FromTheStart => say(out, b" start"),
+        Some(event) => say_number(out, event),
+        None => say(out, b" start"),
     }
 }
 
-fn say_taken<W: Write>(out: &mut W, taken: TakenOut) -> io::Result<()> {
+fn say_taken<W: Write>(out: &mut W, taken: Option<u32>) -> io::Result<()> {
     match taken {
-        TakenOut::TakenBy(event) => say_number(out, event),
-        TakenOut::NeverTaken => say(out, b" none"),
+        Some(event) => say_number(out, event),
+        None => say(out, b" none"),
     }
 }
 
@@ -54,7 +54,7 @@ fn print_draw<W: Write>(
     account: Account,
 ) -> io::Result<()> {
     let reading = sheet::read_call(job, rounds);
-    let CallReading::Taken(shape) = reading else {
+    let Ok(shape) = reading else {
         return Ok(());
     };
     let symbol = sheet::draw_symbol(job, shape, (draw % 65536) as u16);

@@ -1,5 +1,5 @@
 -- Of the slots looked at whose symbols are never drawn again, the best leads, and what is most is how long ago its symbol was drawn.
-use Rattle.std.proofs.Common.{◌≡◌, ◌-◌, ◌<◌, ◌≤◌, length, get_or, reverse}
+use Rattle.std.proofs.Common.{◌≡◌, ◌<◌, get_or, reverse}
 use Rattle.rules.specs.Basics.{place}
 use Rattle.choice.proofs.Ranking.{Never, Freed}
 use Rattle.choice.proofs.ranks.free_first.Given as goal
@@ -7,13 +7,8 @@ use Rattle.choice.proofs.ranks.free_first.Given as goal
 abbrev pub invariant-loop-slot : goal.invariant-loop-slot
 invariant-loop-slot l =
     record {
-      inside : l.slot ≤ length l.slots;
       passed : l.best < l.slot;
-      later : l.first < l.slot;
       age : l.most ≡ place (get_or l.slots l.best 0) (reverse l.made);
       never : Never l.rest (reverse l.made) l.slots l.best;
       so_far : Freed l.rest (reverse l.made) l.slots l.best l.slot;
     }
-
-abbrev pub decreases-loop-slot : goal.decreases-loop-slot
-decreases-loop-slot l = length l.slots - l.slot

@@ -8,7 +8,7 @@ use Rattle.choice.proofs.ranks.ranks_of.Goals as goal
 use Rattle.choice.proofs.ranks.ranks_of.Goals.{then-symbol, else-symbol+then-rest-at, else-symbol+else-rest-at+then-rest-at-2}
 
 pub loop-slot-init : goal.loop-slot-init
-loop-slot-init c = record { inside = omega arith; ranked = ranks_none c.args.rest.now c.args.slots.now }
+loop-slot-init c = ranks_none c.args.rest.now c.args.slots.now
 
 pub loop-at-preserved : goal.loop-at-preserved
 loop-at-preserved c =
@@ -36,11 +36,7 @@ loop-slot-preserved c =
           ∙ rank_found rest symbol at w.if-symbol.false w.if-rest-at.false w.if-rest-at-2.true c.loop-at.invariant.before
     ] in
     let raised : next + 1 ≡ suc (rank rest symbol) = ap (λ (n : ℕ). n + 1) ranked ∙ add-one (rank rest symbol) in
-    record {
-      inside = omega arith;
-      ranked =
-          ranks_more rest c.args.slots.now l.ranks l.slot (next + 1) c.loop-slot-test.true c.requires.few_slots raised l.invariant.ranked;
-    }
+    ranks_more rest c.args.slots.now l.ranks l.slot (next + 1) c.loop-slot-test.true c.requires.few_slots raised l.invariant
 
 pub returns : goal.returns
-returns c = let l = c.loop-slot in ranks_all c.args.rest.now c.args.slots.now l.ranks l.slot (omega arith) l.invariant.ranked
+returns c = let l = c.loop-slot in ranks_all c.args.rest.now c.args.slots.now l.ranks l.slot (omega arith) l.invariant

@@ -4,10 +4,7 @@ use Rattle.choice.proofs.Ranking.{NotBefore, ranks_to}
 use Rattle.choice.proofs.ranks.ranks_of.Given as goal
 
 abbrev pub invariant-loop-slot : goal.invariant-loop-slot
-invariant-loop-slot l = record { inside : l.slot ≤ length l.slots; ranked : l.ranks ≡ ranks_to l.rest l.slots l.slot }
-
-abbrev pub decreases-loop-slot : goal.decreases-loop-slot
-decreases-loop-slot l = length l.slots - l.slot
+invariant-loop-slot l = l.ranks ≡ ranks_to l.rest l.slots l.slot
 
 abbrev pub invariant-loop-at : goal.invariant-loop-at
 invariant-loop-at l = record { inside : l.at ≤ length l.rest; before : NotBefore l.rest l.symbol l.at }

@@ -12,9 +12,5 @@ loop-place-preserved c =
     let less : l.place < c.args.shape.draws = omega arith in
     let many : length (draws_of asked) ≡ c.args.shape.draws = c.requires.many_draws in
     let few : c.args.shape.draws ≤ most_draws = c.requires.few_draws in
-    record {
-      inside = omega arith;
-      filled =
-          row_more (draws_of asked) l.row l.place c.draw_symbol.result (omega arith) (omega arith) l.invariant.filled
-          (c.draw_symbol.ensures ∙ sym (draw_read c.requires l.place less));
-    }
+    row_more (draws_of asked) l.row l.place c.draw_symbol.result (omega arith) (omega arith) l.invariant
+    (c.draw_symbol.ensures ∙ sym (draw_read c.requires l.place less))

@@ -1,30 +1,16 @@
--- The draw of this turn is the last one of the symbol, or it is passed.
-use Rattle.std.proofs.Common.{◌≡◌, length, reverse, arith}
+-- The search back stops at the last draw of the symbol.
+use Rattle.std.proofs.Common.{◌≡◌, reverse, tests, rules, sym, ap, ◌∙◌}
+use Rattle.std.specs.Prelude.{unwrap_or}
 use lib.ListN.{length-reverse}
-use Rattle.rules.specs.Basics.{place}
-use Rattle.choice.proofs.Searches.{since_here, since_further, since_past}
+use Rattle.std.proofs.lemmas.Iterator.{IsFirst-from_position}
+use Rattle.std.proofs.lemmas.Iterator.Adapters.{YieldsList-from_rev_slice}
+use Rattle.choice.proofs.Searches.{found_first}
 use Rattle.choice.proofs.search.last_draw.Goals as goal
-
-pub returns-then-made-ago : goal.returns-then-made-ago
-returns-then-made-ago c =
-    let ago = c.loop-ago.ago in
-    let here : place c.args.symbol (reverse c.args.made.now) ≡ ago =
-    since_here c.args.made.now c.args.symbol ago c.loop-ago.invariant.since c.loop-ago-test.true c.if-made-ago.true in
-    let size : length (reverse c.args.made.now) ≡ length c.args.made.now = length-reverse c.args.made.now in
-    record { first = omega arith; within = omega arith }
-
-pub loop-ago-preserved : goal.loop-ago-preserved
-loop-ago-preserved c =
-    record {
-      inside = omega arith;
-      since =
-          since_further c.args.made.now c.args.symbol c.loop-ago.ago c.loop-ago.invariant.since c.loop-ago-test.true c.if-made-ago.false;
-    }
 
 pub returns : goal.returns
 returns c =
-    let ago = c.loop-ago.ago in
-    let past : place c.args.symbol (reverse c.args.made.now) ≡ ago =
-    since_past c.args.made.now c.args.symbol ago c.loop-ago.invariant.since c.loop-ago-test.false in
-    let size : length (reverse c.args.made.now) ≡ length c.args.made.now = length-reverse c.args.made.now in
-    record { first = omega arith; within = omega arith }
+    let a = c.args in
+    found_first a.symbol (reverse a.made.now) c.position.result _
+    (IsFirst-from_position _ _ _ (λ y. y ≡ a.symbol) (λ y. y ≡ a.symbol → ⊥) c.position.ensures.ran (YieldsList-from_rev_slice a.made.now (cc))
+    (λ x q k. search (rules, tests)) (λ x q k. search (rules, tests)))
+    (c.unwrap_or.ensures ∙ ap (unwrap_or c.position.result) (sym (length-reverse a.made.now)))

@@ -1,34 +1,14 @@
--- The draw of this turn is in no slot, or it is passed.
-use Rattle.std.proofs.Common.{◌≡◌, suc, ◌+◌, true, false, drop, get_or, length, refl, arith}
+-- The search stops at the first draw that no slot serves.
+use Rattle.std.proofs.Common.{◌≡◌, tests, rules, true, false}
 use Rattle.rules.specs.Basics.{stands}
-use Rattle.rules.specs.Plans.{missing}
-use Rattle.laws.proofs.Places.{found_stands, missed_stands}
-use Rattle.choice.proofs.Searches.{missing_here, missing_further, missing_past}
+use Rattle.std.proofs.lemmas.Iterator.{IsFirst-from_position, YieldsList-from_slice}
+use Rattle.choice.proofs.Searches.{missed_first}
 use Rattle.choice.proofs.search.missing.Goals as goal
-
-pub returns-then-slot_of-slots : goal.returns-then-slot_of-slots
-returns-then-slot_of-slots c =
-    let slots = c.args.slots.now in
-    let rest = c.args.rest.now in
-    let at = c.loop-at.at in
-    let absent : stands (get_or rest at 0) slots ≡ false =
-    missed_stands _ slots c.slot_of.result (length slots) c.slot_of.ensures.first refl (omega arith) in
-    let stops : missing slots (drop at rest) ≡ 0 = missing_here slots rest at c.loop-at-test.true absent in
-    record { first = omega arith; within = omega arith }
-
-pub loop-at-preserved : goal.loop-at-preserved
-loop-at-preserved c =
-    let slots = c.args.slots.now in
-    let rest = c.args.rest.now in
-    let at = c.loop-at.at in
-    let held : stands (get_or rest at 0) slots ≡ true =
-    found_stands _ slots c.slot_of.result (length slots) c.slot_of.ensures.first refl (omega arith) in
-    let goes : missing slots (drop at rest) ≡ suc (missing slots (drop (at + 1) rest)) =
-    missing_further slots rest at c.loop-at-test.true held in
-    record { inside = omega arith; whole = omega arith }
 
 pub returns : goal.returns
 returns c =
-    let stops : missing c.args.slots.now (drop c.loop-at.at c.args.rest.now) ≡ 0 =
-    missing_past c.args.slots.now c.args.rest.now c.loop-at.at c.loop-at-test.false in
-    record { first = omega arith; within = omega arith }
+    let a = c.args in
+    missed_first a.slots.now a.rest.now c.position.result _
+    (IsFirst-from_position _ _ _ (λ y. stands y a.slots.now ≡ false) (λ y. stands y a.slots.now ≡ true) c.position.ensures.ran
+    (YieldsList-from_slice a.rest.now (cc)) (λ x q k. search (rules, tests)) (λ x q k. search (rules, tests)))
+    c.unwrap_or.ensures

@@ -1,8 +1,12 @@
 -- The row begins with the draws. Conservative has the loads of opt to work off, any other plan none.
-use Rattle.std.proofs.Common.{◌≡◌, length, sym, ◌∙◌, arith}
-use Rattle.rules.specs.Job.{call, most_draws}
+use Rattle.std.proofs.Common.{◌≡◌, ℕ, List, length, take, sym, ◌∙◌, arith}
+use Rattle.rules.specs.Display.{refused}
+use Rattle.rules.specs.Job.{Call, call, most_draws}
 use Rattle.laws.proofs.Jobs.{limits}
-use Rattle.planner.proofs.Planning.{row_draws, row_size, row_long, few_loads, loads_by_plan}
+use Rattle.planner.proofs.Planning.{row_draws, row_size, row_long, few_loads, loads_by_plan, never_late}
+use Rattle.rules.specs.declared.Unrolled.{Unrolled}
+use Rattle.choice.specs.Rows.{row_of}
+use Rattle.planner.specs.Runs.{run_of, HasPlaces, Prepared, Over}
 use Rattle.planner.proofs.answer.run_of.Goals as goal
 
 pub row_of-all-requires : goal.row_of-all-requires
@@ -18,37 +22,41 @@ slice_bounds-row-end c =
     let asked = call c.args.job.now c.args.shape.rounds in
     sym (row_size asked c.args.shape c.row_of-all.result (limits asked c.args.shape c.requires.taken) c.row_of-all.ensures)
 
-pub run_from_start-requires : goal.run_from_start-requires
-run_from_start-requires c =
-    let asked = call c.args.job.now c.args.shape.rounds in
+-- A plan that works off no loads is ready as soon as the row is copied.
+alone : (plan : ℕ) (asked : Call) (shape : Unrolled) (row loads : List ℕ) → HasPlaces asked shape loads → row ≡ row_of asked → (plan ≡ 1 → ⊥)
+    → Prepared plan asked shape (take shape.draws row) 0 loads
+alone plan asked shape row loads has copied other =
     record {
-      has_places = c.requires;
-      draws = row_draws asked c.args.shape c.row_of-all.result (limits asked c.args.shape c.requires.taken) c.row_of-all.ensures;
-      ordered = record { few = omega arith; of_opt = λ one. absurd (c.if-plan-ne1.true one) };
+      has_places = has;
+      draws = row_draws asked shape row (limits asked shape has.taken) copied;
+      ordered = record { few = omega arith; of_opt = λ one. absurd (other one) };
     }
 
-pub run_from_start-opt-requires : goal.run_from_start-opt-requires
-run_from_start-opt-requires c =
-    let asked = call c.args.job.now c.args.shape.rounds in
-    record {
-      has_places = c.requires;
-      draws = row_draws asked c.args.shape c.row_of-all.result (limits asked c.args.shape c.requires.taken) c.row_of-all.ensures;
-      ordered = record { few = omega arith; of_opt = λ one. absurd (omega arith) };
-    }
+pub run_from_start-requires : goal.run_from_start-requires
+run_from_start-requires c = alone _ _ _ _ _ c.requires c.row_of-all.ensures c.if-plan-ne1.true
 
 pub run_from_start-requires-2 : goal.run_from_start-requires-2
-run_from_start-requires-2 c =
+run_from_start-requires-2 c = alone _ _ _ _ _ c.requires c.row_of-all.ensures (λ one. omega arith)
+
+pub run_from_start-requires-3 : goal.run_from_start-requires-3
+run_from_start-requires-3 c =
     let asked = call c.args.job.now c.args.shape.rounds in
-    let opt = c.run_from_start-opt.result in
-    let loads = c.run_from_start-opt.new.loads in
-    let places : length loads ≡ most_draws = c.run_from_start-opt.auto.loads ∙ c.requires.places in
-    let few = few_loads asked c.args.shape c.requires.taken 2 opt loads c.run_from_start-opt.ensures in
+    let loads = c.run_from_start-2.new.loads in
+    let places : length loads ≡ most_draws = c.run_from_start-2.auto.loads ∙ c.requires.places in
+    let over : Over 2 asked loads c.in_ok-opt.opt = c.in_ok-opt.ensures in
+    let few = few_loads asked c.args.shape c.requires.taken 2 loads c.in_ok-opt.opt over in
     record {
       has_places = record { taken = c.requires.taken; places = places };
       draws = row_draws asked c.args.shape c.row_of-all.result (limits asked c.args.shape c.requires.taken) c.row_of-all.ensures;
       ordered =
           record {
             few = omega arith;
-            of_opt = λ one. loads_by_plan asked c.args.shape c.requires.taken 2 opt loads c.run_from_start-opt.ensures;
+            of_opt = λ one. loads_by_plan asked c.args.shape c.requires.taken 2 loads c.in_ok-opt.opt over;
           };
     }
+
+-- Opt is always over in time.
+pub returns-in_err-opt : goal.returns-in_err-opt
+returns-in_err-opt c =
+    let late : run_of (call c.args.job.now c.args.shape.rounds) 2 ≡ refused 15 0 = c.in_err-opt.ensures in
+    absurd (never_late _ c.args.shape c.requires.taken 2 late)

@@ -1,24 +1,20 @@
 -- The loop goes on as `Walking` says. It is left where no draw remains, no tick is left, or a tick is refused.
-use Rattle.std.proofs.Common.{◌≡◌, ◌<◌, List, length, refl, sym, ap, ◌∙◌, cond, leb, arith}
+use Rattle.std.proofs.Common.{◌≡◌, ◌<◌, length, refl, sym, ap, ◌∙◌, arith}
 use Rattle.rules.specs.declared.Unrolled.{Unrolled}
-use Rattle.rules.specs.Display.{Loaded, going, refused}
 use Rattle.rules.specs.Job.{call, shape_of, job_of}
 use Rattle.rules.specs.LoadList.{last_tick}
-use Rattle.rules.specs.Plans.{earliest, rule_of}
+use Rattle.rules.specs.Plans.{rule_of}
 use Rattle.laws.proofs.Jobs.{limits}
 use Rattle.laws.proofs.Symbols.{length_symbols}
-use Rattle.display.specs.View.{at_first, view, onward}
+use Rattle.display.specs.View.{at_first, onward}
 use Rattle.display.proofs.Going.{going_room}
-use Rattle.planner.specs.Runs.{run_of}
 use Rattle.planner.proofs.LoadRow.{row_start, row_on}
-use Rattle.planner.proofs.Planning.{ended}
-use Rattle.planner.proofs.Walks.{walking_first, walking_on, calm, ruled, ends_over, ends_late, ends_refused}
+use Rattle.planner.proofs.Planning.{over_so}
+use Rattle.planner.proofs.Walks.{walking_first, walking_on, calm, by_plan, ends_over, ends_late, ends_refused}
 use Rattle.planner.proofs.run.run_plan.Goals as goal
-use Rattle.planner.proofs.run.run_plan.Goals.{then-shape-next, else-shape-next+then-tick-ge-LAST_TICK}
-use Rattle.planner.proofs.run.run_plan.Goals.{else-shape-next+else-tick-ge-LAST_TICK+then-ticked-ne0}
 
-pub loop-tick-init : goal.loop-tick-init
-loop-tick-init c =
+pub loop-d-init : goal.loop-d-init
+loop-d-init c =
     let a = c.args in
     let asked = call a.job.now a.shape.rounds in
     let ready = c.requires.prepared in
@@ -38,38 +34,37 @@ plan_tick-ticked-requires c =
     let within = limits asked a.shape ready.has_places.taken in
     let most = within.few_draws in
     let many : length job.draws ≡ a.shape.draws = within.many_draws in
-    let early : c.loop-tick.d.tick < last_tick = c.if-tick-ge-LAST_TICK.false in
-    let remains : c.loop-tick.d.next < a.shape.draws = c.if-shape-next.false in
+    let early : c.loop-d.d.tick < last_tick = c.if-d-ge-LAST_TICK.false in
+    let remains : c.loop-d.d.next < a.shape.draws = c.loop-d-test.true in
     let roomy =
-    going_room job (rule_of job a.plan) last_tick _ _ _ c.loop-tick.invariant.walking.along early (omega arith) (omega arith) in
+    going_room job (rule_of job a.plan) last_tick _ _ _ c.loop-d.invariant.walking.along early (omega arith) (omega arith) in
     record {
       limits = within;
       draws = ready.draws;
       size =
-          c.loop-tick.invariant.same_size ∙ ap length c.requires.starts ∙ length_symbols (shape_of asked.job).slots _
+          c.loop-d.invariant.same_size ∙ ap length c.requires.starts ∙ length_symbols (shape_of asked.job).slots _
           ∙ ap (λ (s : Unrolled). s.slots) (sym within.shaped);
       room = roomy.0;
       few_loads = roomy.1;
       remains = remains;
     }
 
-pub loop-tick-preserved : goal.loop-tick-preserved
-loop-tick-preserved c =
+pub loop-d-preserved : goal.loop-d-preserved
+loop-d-preserved c =
     let a = c.args in
     let asked = call a.job.now a.shape.rounds in
     let job = job_of asked in
     let rule = rule_of job a.plan in
-    let l = c.loop-tick in
+    let l = c.loop-d in
     let kept = l.invariant in
     let h = kept.history in
     let many : length job.draws ≡ a.shape.draws = (limits asked a.shape c.requires.prepared.has_places.taken).many_draws in
-    let within : l.d.next < length job.draws = omega (arith, c.if-shape-next.false) in
-    let early : l.d.tick < last_tick = c.if-tick-ge-LAST_TICK.false in
+    let within : l.d.next < length job.draws = omega (arith, c.loop-d-test.true) in
+    let early : l.d.tick < last_tick = c.if-d-ge-LAST_TICK.false in
     let held' = c.plan_tick-ticked.new.held in
     let r = c.plan_tick-ticked.result in
     let ticks =
-    ruled a.plan job c.order_at-order.result l.held held' l.d r
-    (λ one s. c.order_at-order.ensures s ∙ ap (λ (o : List Loaded). earliest o s) (kept.row.to_come one)) c.plan_tick-ticked.ensures in
+    by_plan a.plan asked a.orders l.loads l.held held' l.d _ r kept.row c.order_at-order.ensures c.plan_tick-ticked.ensures in
     let on =
     walking_on job rule l.held l.d h kept.walking within early held' r ticks c.if-ticked-ne0.false c.after_waits-d.result
     c.after_waits-d.ensures (calm a.plan job held' (onward l.d r.on_record h) r.display) in
@@ -82,27 +77,33 @@ loop-tick-preserved c =
           on.listed;
     }
 
+pub returns-then-d-ge-LAST_TICK : goal.returns-then-d-ge-LAST_TICK
+returns-then-d-ge-LAST_TICK c =
+    let a = c.args in
+    let asked = call a.job.now a.shape.rounds in
+    let l = c.loop-d in
+    let many = (limits asked a.shape c.requires.prepared.has_places.taken).many_draws in
+    ends_late (job_of asked) (rule_of (job_of asked) a.plan) l.held l.d l.invariant.history l.invariant.walking (rw many c.loop-d-test.true)
+    c.if-d-ge-LAST_TICK.true
+
+pub returns-then-ticked-ne0 : goal.returns-then-ticked-ne0
+returns-then-ticked-ne0 c =
+    let a = c.args in
+    let asked = call a.job.now a.shape.rounds in
+    let l = c.loop-d in
+    let ticked = c.plan_tick-ticked in
+    let many = (limits asked a.shape c.requires.prepared.has_places.taken).many_draws in
+    ends_refused (job_of asked) (rule_of (job_of asked) a.plan) l.held l.d l.invariant.history l.invariant.walking (rw many c.loop-d-test.true)
+    c.if-d-ge-LAST_TICK.false ticked.new.held ticked.result
+    (by_plan a.plan asked a.orders l.loads l.held ticked.new.held l.d _ _ l.invariant.row c.order_at-order.ensures ticked.ensures) c.if-ticked-ne0.true
+
 pub returns : goal.returns
 returns c =
     let a = c.args in
     let asked = call a.job.now a.shape.rounds in
-    let job = job_of asked in
-    let rule = rule_of job a.plan in
     let taken = c.requires.prepared.has_places.taken in
-    let l = c.loop-tick in
+    let l = c.loop-d in
     let kept = l.invariant in
-    let h = kept.history in
-    let many : length job.draws ≡ a.shape.draws = (limits asked a.shape taken).many_draws in
-    let at_end : run_of asked a.plan ≡ cond (leb (length job.draws) l.d.next) (going (view l.held h l.d)) (refused 15 0) =
-    elim c.if-shape-next.branch [
-      | then-shape-next w ↦ ends_over job rule l.held l.d h kept.walking (omega (arith, w.if-shape-next.true))
-      | else-shape-next+then-tick-ge-LAST_TICK w ↦
-          ends_late job rule l.held l.d h kept.walking (omega (arith, w.if-shape-next.false)) w.if-tick-ge-LAST_TICK.true
-      | else-shape-next+else-tick-ge-LAST_TICK+then-ticked-ne0 w ↦
-          ends_refused job rule l.held l.d h kept.walking (omega (arith, w.if-shape-next.false)) w.if-tick-ge-LAST_TICK.false
-          w.plan_tick-ticked.new.held w.plan_tick-ticked.result
-          (ruled a.plan job w.order_at-order.result l.held w.plan_tick-ticked.new.held l.d w.plan_tick-ticked.result
-          (λ one s. w.order_at-order.ensures s ∙ ap (λ (o : List Loaded). earliest o s) (kept.row.to_come one)) w.plan_tick-ticked.ensures)
-          w.if-ticked-ne0.true
-    ] in
-    ended asked a.shape taken a.plan _ l.held h (rw many at at_end) l.loads kept.row.noted
+    let many = (limits asked a.shape taken).many_draws in
+    over_so asked a.shape taken a.plan l.held kept.history l.d
+    (ends_over (job_of asked) (rule_of (job_of asked) a.plan) l.held l.d kept.history kept.walking (rw many c.loop-d-test.false)) l.loads kept.row.noted

@@ -5,8 +5,8 @@ use Rattle.rules.specs.LoadList.{last_tick}
 use Rattle.planner.proofs.Walks.{MidRun}
 use Rattle.planner.proofs.run.run_plan.Given as goal
 
-abbrev pub invariant-loop-tick : goal.invariant-loop-tick
-invariant-loop-tick l = MidRun l.plan (call l.job l.shape.rounds) (length l.initial.held) l.orders l.held l.loads l.d
+abbrev pub invariant-loop-d : goal.invariant-loop-d
+invariant-loop-d l = MidRun l.plan (call l.job l.shape.rounds) (length l.initial.held) l.orders l.held l.loads l.d
 
-abbrev pub decreases-loop-tick : goal.decreases-loop-tick
-decreases-loop-tick l = last_tick - l.d.tick
+abbrev pub decreases-loop-d : goal.decreases-loop-d
+decreases-loop-d l = last_tick - l.d.tick

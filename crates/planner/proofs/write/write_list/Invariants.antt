@@ -1,10 +1,6 @@
 -- The head and the events so far are written over the room's former content.
-use Rattle.std.proofs.Common.{◌-◌}
 use Rattle.planner.proofs.Writes.{SoFar}
 use Rattle.planner.proofs.write.write_list.Given as goal
 
 abbrev pub invariant-loop-index : goal.invariant-loop-index
 invariant-loop-index l = SoFar l.count l.loads l.initial.room l.room l.index
-
-abbrev pub decreases-loop-index : goal.decreases-loop-index
-decreases-loop-index l = l.count - l.index
