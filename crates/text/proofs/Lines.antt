@@ -9,6 +9,7 @@ use lib.ListN.{get_or, drop}
 use lib.Seq.{get_or-drop, drop-drop}
 use lib.Dec.{eqb}
 use borrow.Author.Tests.{le-leb, eq-eqb, ne_eqb, eqb-true, eqb-false, lt-ltb, le-ltb}
+use Rattle.rules.specs.LoadList.{event}
 use Rattle.rules.specs.Text.{blank, line_feed, last_slot, last_symbol, is_digit, digit_count, number_from, FieldReading, found, none, read_field}
 use Rattle.rules.specs.Text.{with_symbol, with_slot, with_tick, read_line}
 use Rattle.laws.proofs.Cases.{by_test}
@@ -19,7 +20,7 @@ use Rattle.text.specs.Found.{kept, DigitsFound, FirstDigit, NumberFound, Stop, f
 use Rattle.text.proofs.Digits.{counts_some, counts_none, takes_none, first_there, counts_first, takes_first}
 
 abbrev pub ending : (tick slot symbol after : ℕ) → Line
-ending tick slot symbol after = record { tick = tick; slot = slot; symbol = symbol; after = after }
+ending tick slot symbol after = record { event = event tick slot symbol; after = after }
 
 -- ---- A number and the byte after it
 

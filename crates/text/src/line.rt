@@ -5,7 +5,7 @@ ghost use Rattle.rules.specs.LoadList.{last_tick};
 ghost use Rattle.rules.specs.Text.{is_digit, read_field, read_line};
 ghost use Rattle.text.specs.Found.{kept, WithDigit, DigitsFound, FirstDigit, NumberFound, Stop, field_found, line_found};
 
-use rules::LAST_TICK;
+use rules::{Event, LAST_TICK};
 
 // The digits from a place on: where they end, and the number that they name.
 #[derive(Drop)]
@@ -21,12 +21,10 @@ pub struct Field {
     pub after: usize,
 }
 
-// A line's tick, slot and symbol, and the place after the line.
+// A line's event, and the place after the line.
 #[derive(Drop)]
 pub struct Line {
-    pub tick: u32,
-    pub slot: u8,
-    pub symbol: u16,
+    pub event: Event,
     pub after: usize,
 }
 
@@ -103,10 +101,13 @@ pub fn line_at(text: &[u8], from: usize) -> Option<Line>
     if symbol.number > 65535 {
         return None;
     }
-    Some(Line {
+    let event = Event {
         tick: tick.number,
         slot: slot.number as u8,
         symbol: symbol.number as u16,
+    };
+    Some(Line {
+        event,
         after: symbol.after,
     })
 }
