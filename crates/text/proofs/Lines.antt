@@ -9,6 +9,10 @@ use lib.ListN.{get_or, drop}
 use lib.Seq.{get_or-drop, drop-drop}
 use lib.Dec.{eqb}
 use borrow.Author.Tests.{le-leb, eq-eqb, ne_eqb, eqb-true, eqb-false, lt-ltb, le-ltb}
+use mathlib.Core.Logic.{⊎_elim}
+use Rattle.std.proofs.Common.{Result, Ok, Err}
+use Rattle.std.proofs.lemmas.Bool.{cases_lt}
+use Rattle.std.specs.Result.{OkIff, result_ok}
 use Rattle.rules.specs.LoadList.{event}
 use Rattle.rules.specs.Text.{blank, line_feed, last_slot, last_symbol, is_digit, digit_count, number_from, FieldReading, found, none, read_field}
 use Rattle.rules.specs.Text.{with_symbol, with_slot, with_tick, read_line}
@@ -109,6 +113,15 @@ module _ (text : List ℕ) (from stop : ℕ) where
           rw (field_is some, ← all.ends, eq-eqb (get_or text r.end 0) stop ends, all.names, place))
 
 -- ---- A line
+
+-- A number that was tried as a narrower one: it is too great, or it is that number.
+pub too_great : {E : Type 0} (r : Result ℕ E) (n limit : ℕ) → OkIff r (n < limit) n → None ≡ result_ok r → limit ≤ n
+too_great (Ok x) n limit is e = let z : ◌≡◌ {A = ℕ} 0 1 = cc in absurd (omega arith)
+too_great (Err why) n limit is e = ⊎_elim (λ low. absurd (is low)) (λ over. over) (cases_lt n limit)
+
+pub narrowed : {E : Type 0} (r : Result ℕ E) (n limit x : ℕ) → OkIff r (n < limit) n → Some x ≡ result_ok r → (n < limit) × (x ≡ n)
+narrowed (Ok y) n limit x is e = (is.0, (let same : x ≡ y = cc in same) ∙ is.1)
+narrowed (Err why) n limit x is e = let z : ◌≡◌ {A = ℕ} 0 1 = cc in absurd (omega arith)
 
 -- What was found at a place is what the definition finds there.
 as_none : (from : ℕ) (f : FieldReading) → None ≡ field_found from f → f ≡ none

@@ -92,22 +92,18 @@ fn field_at(text: &[u8], from: usize, stop: u8) -> Option<Field>
 pub fn line_at(text: &[u8], from: usize) -> Option<Line>
     ensures { result ≡ line_found from (read_line (drop from text.now)) }
 {
-    let tick = field_at(text, from, b' ')?;
-    let slot = field_at(text, tick.after, b' ')?;
-    if slot.number > 255 {
-        return None;
-    }
-    let symbol = field_at(text, slot.after, b'\n')?;
-    if symbol.number > 65535 {
-        return None;
-    }
+    let first = field_at(text, from, b' ')?;
+    let second = field_at(text, first.after, b' ')?;
+    let slot = u8::try_from(second.number).ok()?;
+    let third = field_at(text, second.after, b'\n')?;
+    let symbol = u16::try_from(third.number).ok()?;
     let event = Event {
-        tick: tick.number,
-        slot: slot.number as u8,
-        symbol: symbol.number as u16,
+        tick: first.number,
+        slot,
+        symbol,
     };
     Some(Line {
         event,
-        after: symbol.after,
+        after: third.after,
     })
 }
