@@ -20,7 +20,6 @@ use Rattle.sheet.proofs.list.put_head as put_head
 use Rattle.sheet.proofs.list.put_event as put_event
 use Rattle.sheet.proofs.number.put_number32 as put_number32
 use Rattle.sheet.proofs.ticks.first_bad_tick as first_bad_tick
-use Rattle.sheet.proofs.load_list.LoadList.first_bad_tick as list_first_bad_tick
 use Rattle.sheet.proofs.load_list.LoadList.check_ticks as check_ticks
 use Rattle.sheet.proofs.load_list.LoadList.event as list_event
 use Rattle.sheet.proofs.walk.event_of as event_of
@@ -55,9 +54,6 @@ event_of_promise = record { any = λ κs given. tt; one = λ κs given answer an
 -- It asks for a list of the size that its events need.
 pub first_bad_tick_one : NoSecond contracts.first_bad_tick.ended first_bad_tick.Reads.Asked first_bad_tick.Reads.Learnt
 first_bad_tick_one κs given answer answer' left left' asked p q = (same p q, refl)
-
-pub list_first_bad_tick_promise : Promise contracts.load_list.LoadList.first_bad_tick.ended list_first_bad_tick.Reads.Asked list_first_bad_tick.Reads.Learnt
-list_first_bad_tick_promise = record { any = λ κs given. tt; one = λ κs given answer answer' left left' asked p q. (same p q, refl) }
 
 pub check_ticks_promise : Promise contracts.load_list.LoadList.check_ticks.ended check_ticks.Reads.Asked check_ticks.Reads.Learnt
 check_ticks_promise = record { any = λ κs given. tt; one = λ κs given answer answer' left left' asked p q. (same p q, refl) }

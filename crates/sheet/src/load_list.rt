@@ -1,7 +1,7 @@
 // A load list that was read: its bytes, as many as its events need, and the number of its events. Who has one need not test its size again.
 ghost use Rattle.std.specs.Prelude.{◌≡◌, ◌+◌, ◌<◌, ◌∷◌, drop, MatchResult, Some, None};
 ghost use Rattle.rules.specs.LoadList.{read_event, event_at, events_in, head_size};
-ghost use Rattle.rules.specs.Refusals.{read_list, first_bad_tick};
+ghost use Rattle.rules.specs.Refusals.{read_list};
 ghost use Rattle.rules.specs.declared.refusal.Refusal.TheVariants.{ListForm};
 ghost use Rattle.sheet.specs.Size.{Sized};
 ghost use Rattle.sheet.specs.Ticks.{in_order};
@@ -40,28 +40,19 @@ impl<'a> LoadList<'a> {
         event
     }
 
-    // The first event that breaks the rule of ticks, or the number of events: no tick is over the limit, and each is above the one before.
-    pub fn first_bad_tick(self) -> u32
-        ensures { result ≡ first_bad_tick 0 (events_in self.entry.count (drop head_size self.entry.bytes.now)) }
+    // The rule of ticks: none is over the limit, and each is above the one before.
+    pub fn check_ticks(self) -> Result<(), Refusal>
+        ensures { result ≡ in_order self.entry.count self.entry.bytes.now }
     {
         let mut least: u32 = 0;
         for index in 0..self.count {
             let tick = self.event(index).tick;
             if LAST_TICK < tick || tick < least {
-                return index as u32;
+                return Err(Refusal::EventTick {
+                    event: index as u32,
+                });
             }
             least = tick + 1;
-        }
-        self.count as u32
-    }
-
-    // That no event breaks the rule of ticks.
-    pub fn check_ticks(self) -> Result<(), Refusal>
-        ensures { result ≡ in_order self.entry.count self.entry.bytes.now }
-    {
-        let event = self.first_bad_tick();
-        if event < self.count as u32 {
-            return Err(Refusal::EventTick { event });
         }
         Ok(())
     }

@@ -11,5 +11,8 @@ pub fn first_bad_tick(list: &[u8], count: u16) -> u32
     requires { Sized count list.now }
     ensures { result ≡ first_bad_tick 0 (events_in count (drop head_size list.now)) }
 {
-    LoadList { bytes: list, count }.first_bad_tick()
+    match (LoadList { bytes: list, count }).check_ticks() {
+        Ok(()) => count as u32,
+        Err(refusal) => refusal.detail(),
+    }
 }

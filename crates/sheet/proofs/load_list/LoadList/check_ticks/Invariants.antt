@@ -2,7 +2,7 @@
 use Rattle.std.proofs.Common.{◌≡◌, ◌+◌, drop}
 use Rattle.rules.specs.LoadList.{head_size, events_in}
 use Rattle.rules.specs.Refusals.{first_bad_tick}
-use Rattle.sheet.proofs.load_list.LoadList.first_bad_tick.Given as goal
+use Rattle.sheet.proofs.load_list.LoadList.check_ticks.Given as goal
 
 abbrev pub invariant-loop-index : goal.invariant-loop-index
 invariant-loop-index l =
