@@ -4,13 +4,13 @@ ghost use Rattle.rules.specs.Job.{call};
 ghost use Rattle.rules.specs.LoadList.{head_size, event_size};
 ghost use Rattle.rules.specs.Plans.{last_plan};
 ghost use Rattle.rules.specs.Refusals.{planned, answer_of, written_by, lent};
-ghost use Rattle.planner.specs.Runs.{HasPlaces, Prepared, Ended, HasRoom, CarriedOut};
+ghost use Rattle.planner.specs.Runs.{HasPlaces, Prepared, Ended, ComesTo};
 
 use crate::run::run_plan;
 use crate::write::write_list;
 use choice::row_of;
 use display::{Display, accepted, refusal};
-use rules::{Answer, MOST_DRAWS, Unrolled};
+use rules::{Answer, MOST_DRAWS, Refusal, Unrolled};
 
 // The run of a plan from the start of the job.
 fn run_from_start(
@@ -20,7 +20,7 @@ fn run_from_start(
     row: &[u16],
     orders: u32,
     loads: &mut [u64],
-) -> Option<Display>
+) -> Result<Display, Refusal>
     requires { Prepared plan (call job.now shape.rounds) shape row.now orders loads.old }
     ensures { Ended plan (call job.now shape.rounds) result loads.new }
 {
@@ -30,7 +30,7 @@ fn run_from_start(
 }
 
 // The run of a plan of a job that was taken. Conservative works off the loads of opt, so opt runs first.
-fn run_of(plan: u32, job: &[u8], shape: Unrolled, loads: &mut [u64]) -> Option<Display>
+fn run_of(plan: u32, job: &[u8], shape: Unrolled, loads: &mut [u64]) -> Result<Display, Refusal>
     requires { HasPlaces (call job.now shape.rounds) shape loads.old }
     ensures { Ended plan (call job.now shape.rounds) result loads.new }
 {
@@ -58,17 +58,23 @@ fn short_room(draws: u16, room: usize) -> bool
     room < sheet::list_size(draws as u32)
 }
 
-// The run of a plan of a job that was taken, and its list in room enough. Nothing is written before the last refusal is past.
-fn carry_out(job: &[u8], shape: Unrolled, plan: u32, room: &mut [u8]) -> Answer
-    requires { HasRoom (call job.now shape.rounds) shape room.old }
-    ensures { CarriedOut (call job.now shape.rounds) plan result room.old room.new }
+// The display at the end of the run of a plan, with the run's list in the room; or the first refusal that is met. Nothing is written before
+// the last refusal is past.
+fn carry_out(job: &[u8], plan: u32, rounds: u32, room: &mut [u8]) -> Result<Display, Refusal>
+    ensures comes_to { ComesTo (planned (call job.now rounds) plan (length room.old)) result }
+    ensures writes { room.new ≡ lent (written_by (planned (call job.now rounds) plan (length room.old))) room.old }
 {
+    let shape = sheet::read_call(job, rounds)?;
+    if unknown(plan) {
+        return Err(Refusal::PlanNumber);
+    }
+    if short_room(shape.draws, room.len()) {
+        return Err(Refusal::ShortRoom);
+    }
     let mut loads = [0; MOST_DRAWS as usize];
-    let Some(d) = run_of(plan, job, shape, &mut loads) else {
-        return refusal(15, 0);
-    };
+    let d = run_of(plan, job, shape, &mut loads)?;
     write_list(room, d.loads as u16, &loads);
-    accepted(d)
+    Ok(d)
 }
 
 // Plans this many rounds of the job and writes the list from the room's first byte on. Where the plan is refused, the room is as it was.
@@ -76,15 +82,8 @@ pub fn plan(job: &[u8], plan: u32, rounds: u32, room: &mut [u8]) -> Answer
     ensures answers { result ≡ answer_of (planned (call job.now rounds) plan (length room.old)) }
     ensures writes { room.new ≡ lent (written_by (planned (call job.now rounds) plan (length room.old))) room.old }
 {
-    let reading = sheet::read_call(job, rounds);
-    let Ok(shape) = reading else {
-        return refusal(sheet::call_number(reading), 0);
-    };
-    if unknown(plan) {
-        return refusal(6, 0);
+    match carry_out(job, plan, rounds, room) {
+        Ok(d) => accepted(d),
+        Err(reason) => refusal(reason),
     }
-    if short_room(shape.draws, room.len()) {
-        return refusal(7, 0);
-    }
-    carry_out(job, shape, plan, room)
 }
