@@ -1,9 +1,9 @@
 -- What each plan asks for in a state with no load under way, told from what the searches found.
 use Prim.Native.Nat.{ℕ, zero, suc, ◌+◌, ◌-◌, ◌<◌, ◌≤◌}
 use native.Mathlib.Omega.{arith}
-use mathlib.Core.Path.{◌≡◌, refl, sym, ap, ◌∙◌}
-use mathlib.Core.Bool.{true, false, cond, not, ◌&&◌}
-use mathlib.Core.List.{List, ◌++◌, reverse}
+use mathlib.Core.Path.{◌≡◌, refl, sym, ◌∙◌}
+use mathlib.Core.Bool.{false, cond, ◌&&◌}
+use mathlib.Core.List.{List}
 use lib.ListN.{length, get_or, take, drop, length-drop}
 use lib.Seq.{take_all}
 use lib.Dec.{ltb, leb}
@@ -12,13 +12,13 @@ use Rattle.std.specs.Prelude.{Option, Some, None}
 use Rattle.rules.specs.declared.Load.{Load}
 use Rattle.rules.specs.declared.Loading.{Loading}
 use Rattle.rules.specs.declared.Loading.TheVariants.{Idle}
-use Rattle.rules.specs.Basics.{place, stands}
+use Rattle.rules.specs.Basics.{place}
 use Rattle.rules.specs.Job.{Job}
-use Rattle.rules.specs.Display.{load, State, idle, awaited}
-use Rattle.rules.specs.Plans.{rank, furthest, behind, both_ways, missing, aggressive, on_demand, opt_slot, earliest_at}
+use Rattle.rules.specs.Display.{load, State, idle}
+use Rattle.rules.specs.Plans.{rank, furthest, missing, aggressive, earliest_at}
 use Rattle.choice.specs.declared.ask.Order.{Order}
-use Rattle.choice.specs.Ranks.{Ranks, Greatest, Chosen}
-use Rattle.choice.specs.Asks.{Quiet, Seen, OnDemand, OnDemandBy, asks_by}
+use Rattle.choice.specs.Ranks.{Ranks, Greatest}
+use Rattle.choice.specs.Asks.{Quiet, asks_by}
 use Rattle.choice.proofs.Ranking.{chosen_by, led}
 
 -- The parts of a state that a plan looks at, put in one by one.
@@ -70,32 +70,6 @@ module _ (job : Job) (s : State) (slots rest : List ℕ) (still : Quiet job s sl
           (aggressive_from_lem
           ∙ rw (← first, ← is_furthest, lt-ltb p (length rest) within, le-leb p (rank rest (get_or slots q 0)) (omega (arith, own_rank))))
 
--- ---- On demand
-
-module _ (job : Job) (s : State) (slot : State → ℕ) (slots : List ℕ) (x : ℕ) (still : Quiet job s slots) (next : awaited s ≡ x) where
-  demand_from : Loading → List ℕ → ℕ → Option Load
-  demand_from loading row y = cond (idle loading && not (stands y row)) (Some (load (slot s) y)) None
-
-  demand_from_lem : (on_demand slot).asks s ≡ demand_from Idle slots x
-  unfolding demand_from
-  demand_from_lem = ap3 demand_from still.idle still.held next
-
-  demand_held : stands x slots ≡ true → None ≡ (on_demand slot).asks s
-  unfolding demand_from
-  demand_held held = sym (demand_from_lem ∙ rw held)
-
-  demand_missing : stands x slots ≡ false → (q : ℕ) → q ≡ slot s → Some (load q x) ≡ (on_demand slot).asks s
-  unfolding demand_from
-  demand_missing absent q chosen = sym (demand_from_lem ∙ rw (absent, ← chosen))
-
--- What was chosen where no slot holds the symbol.
-pub demand_by : (slots row : List ℕ) (x : ℕ) (Choice : ℕ → Type 0) (r : Option Load) → ((q : ℕ) → Choice q → Chosen slots row q)
-    → OnDemandBy slots x Choice r → OnDemand slots row x r
-demand_by slots row x Choice None chosen held job s slot still next is = demand_held job s slot slots x still next held
-demand_by slots row x Choice (Some l) chosen (absent, symbol, choice) job s slot still next is =
-    ap (λ (y : ℕ). Some (load l.slot y)) symbol
-    ∙ demand_missing job s slot slots x still next absent l.slot ((chosen l.slot choice).slot job still.many ∙ sym is)
-
 -- ---- Conservative
 
 module _ (job : Job) (s : State) (slots rest : List ℕ) (next miss q x : ℕ) (still : Quiet job s slots) (remain : s.rest ≡ rest)
@@ -116,27 +90,6 @@ module _ (job : Job) (s : State) (slots rest : List ℕ) (next miss q x : ℕ) (
   earliest_now late = sym (earliest_from_lem ∙ rw (at, le-leb miss (next + place (get_or slots q 0) rest) late))
 
 -- ---- By the plan
-
--- Lru looks back along the draws made, opt both ways.
-module _ (job : Job) (order : Option Order) (s : State) (r : Option Load) (slots row : List ℕ) (at symbol : ℕ)
-    (seen : Seen job s slots row at symbol) where
-  chosen_in : (look : State → List ℕ) (looked : List ℕ) → look s ≡ looked → furthest job (look s) s.slots ≡ furthest job looked slots
-  chosen_in look looked e =
-      ap (λ (l : List ℕ). furthest job l s.slots) e ∙ ap (λ (l : List ℕ). furthest job looked l) seen.quiet.held
-
-  made_is : behind job s ≡ reverse (take at row)
-  made_is = ap (λ (n : ℕ). reverse (take n job.draws)) seen.next ∙ ap (λ (l : List ℕ). reverse (take at l)) seen.draws
-
-  pub asks_opt : (rest : List ℕ) → rest ≡ drop at row → OnDemand slots (rest ++ reverse (take at row)) symbol r → r ≡ asks_by 2 job order s
-  asks_opt rest remain asks =
-      asks job s (opt_slot job) seen.quiet seen.awaits
-      (chosen_in (both_ways job) (rest ++ reverse (take at row))
-      (ap (λ (l : List ℕ). l ++ behind job s) (seen.rest ∙ sym remain) ∙ ap (λ (l : List ℕ). rest ++ l) made_is))
-
-  pub asks_lru : OnDemand slots (reverse (take at row)) symbol r → r ≡ asks_by 3 job order s
-  asks_lru asks =
-      asks job s (λ z. furthest job (behind job z) z.slots) seen.quiet seen.awaits
-      (chosen_in (behind job) (reverse (take at row)) made_is)
 
 -- Each number above 2 is that of lru.
 pub above_is_lru : (plan : ℕ) (job : Job) (order : Option Order) (s : State) → 3 ≤ plan → asks_by 3 job order s ≡ asks_by plan job order s

@@ -1,24 +1,27 @@
 -- A plan of a job that was taken: its run is never refused and is over in time, so every load has a place; and the answers of `plan`.
-use Prim.Native.Nat.{ℕ, ◌+◌, ◌*◌, ◌≤◌}
+use Prim.Native.Nat.{ℕ, ◌+◌, ◌*◌, ◌≤◌, ◌<◌}
 use native.Mathlib.Omega.{arith}
-use mathlib.Core.Path.{◌≡◌, sym, ap, subst, ◌∙◌}
+use mathlib.Core.Path.{◌≡◌, refl, sym, ap, subst, ◌∙◌}
 use mathlib.Core.Bool.{Bool, false, cond}
-use mathlib.Core.List.{List, [], map}
+use mathlib.Core.List.{List, [], ◌∷◌, map}
 use lib.ListN.{length, take, length-take}
 use lib.Dec.{ltb, eqb}
-use borrow.Author.Tests.{ltb-false}
+use borrow.Author.Tests.{ltb-false, lt-ltb}
 use Rattle.std.specs.Prelude.{Result, Ok, Err}
 use Rattle.rules.specs.declared.refusal.Refusal.{Refusal}
 use Rattle.rules.specs.declared.Unrolled.{Unrolled}
-use Rattle.rules.specs.Order.{Verdict, clear, met, first_of}
+use Rattle.rules.specs.Order.{Test, test, Verdict, clear, met, first_of}
 use Rattle.rules.specs.Job.{Call, call, unrolled, draws_of, job_of, most_draws}
 use Rattle.rules.specs.LoadList.{head_size, event_size, list_bytes}
 use Rattle.rules.specs.Display.{State, Run, Loaded, going, refused, finished}
-use Rattle.rules.specs.Plans.{run_plan, begun_in, rule_of}
+use Rattle.rules.specs.declared.Plan.{Plan}
+use Rattle.rules.specs.declared.Plan.TheVariants.{Aggressive, Conservative, Opt, Lru}
+use Rattle.rules.specs.Plans.{run_plan, begun_in, rule_of, last_plan}
+use Rattle.choice.specs.Asks.{plan_number}
 use Rattle.rules.specs.Refusing.{refusal_number, refusal_detail, call_refusal}
 use Rattle.rules.specs.Refusals.{call_tests, read_as, read_call, short_plan, in_time, plan_tests, planned, event_of, written_by, lent}
 use Rattle.laws.proofs.Cases.{by_test}
-use Rattle.laws.proofs.Verdicts.{Gives, gives}
+use Rattle.laws.proofs.Verdicts.{Gives, gives, stop, step}
 use Rattle.laws.specs.Limits.{Limits}
 use Rattle.laws.proofs.Jobs.{limits, proper, same_call, refused_call}
 use Rattle.plan_laws.proofs.Keeping.{Done}
@@ -84,6 +87,26 @@ module _ (asked : Call) (plan : ℕ) (room : List ℕ) where
       → Gives (plan_tests asked plan (length room)) clear → comes ≡ run_of (call asked.job shape.rounds) plan
   past_tests reading shape is taken g =
       planned_past asked plan (length room) (gives _ _ g) ∙ ap (λ (a : Call). run_of a plan) (same_call asked shape (sym is ∙ taken))
+
+-- Test 6 is met by a number that is no plan's, and passed by that of one of the four.
+pub no_plan : (number : ℕ) (later : List Test) → last_plan < number → Gives (test 6 0 (ltb last_plan number) ∷ later) (met 6 0)
+no_plan number later above = stop _ refl (lt-ltb last_plan number above)
+
+pub a_plan : (plan : Plan) (number : ℕ) (later : List Test) (v : Verdict) → plan_number plan ≡ number → Gives later v
+    → Gives (test 6 0 (ltb last_plan number) ∷ later) v
+a_plan plan number later v e g = step _ refl (known plan e) g
+  where
+    known : (plan : Plan) → plan_number plan ≡ number → ltb last_plan number ≡ false
+    known Aggressive e = rw (← e)
+    known Conservative e = rw (← e)
+    known Opt e = rw (← e)
+    known Lru e = rw (← e)
+
+pub not_conservative : (plan : Plan) → (plan ≡ Conservative → ⊥) → plan_number plan ≡ 1 → ⊥
+not_conservative Aggressive other e = omega arith
+not_conservative Conservative other e = other refl
+not_conservative Opt other e = omega arith
+not_conservative Lru other e = omega arith
 
 -- ---- The run
 

@@ -38,7 +38,7 @@ use Rattle.planner.proofs.LoadRow.{RowKept}
 -- ---- The rule
 
 -- A tick goes by what the rule asks for in the landed state alone, so conservative may be told from its next load.
-same_tick : (plan : ℕ) (job : Job) (order : Order) (s : State)
+same_tick : (plan : ℕ) (job : Job) (order : Option Order) (s : State)
     → (plan ≡ 1 → order_asks order (land s) ≡ earliest (drop s.loads (begun_in (run_plan job (opt job)))) (land s))
     → tick job (asking (asks_by plan job order)) s ≡ tick job (rule_of job plan) s
 unfolding tick
@@ -48,7 +48,7 @@ same_tick (suc zero) job order s e =
 same_tick (suc (suc zero)) job order s e = refl
 same_tick (suc (suc (suc plan))) job order s e = refl
 
-pub ruled : (plan : ℕ) (job : Job) (order : Order) (held held' : List ℕ) (d : Display) (r : Result Ticked Refusal)
+pub ruled : (plan : ℕ) (job : Job) (order : Option Order) (held held' : List ℕ) (d : Display) (r : Result Ticked Refusal)
     → (plan ≡ 1 → (s : State) → order_asks order s ≡ earliest (drop d.loads (begun_in (run_plan job (opt job)))) s)
     → Ticks job (asking (asks_by plan job order)) held held' d r → Ticks job (rule_of job plan) held held' d r
 ruled plan job order held held' d r ordered ticks =
@@ -59,7 +59,7 @@ ruled plan job order held held' d r ordered ticks =
     }
 
 -- What is asked for with the landed display at hand is what the plan asks for in its state.
-pub asked_landed : {asked : Call} {shape : Unrolled} (plan : ℕ) (order : Order) (row held : List ℕ) (d l : Display) (symbol : ℕ) (load : Option Load)
+pub asked_landed : {asked : Call} {shape : Unrolled} (plan : ℕ) (order : Option Order) (row held : List ℕ) (d l : Display) (symbol : ℕ) (load : Option Load)
     → Limits asked shape
     → LandKeeps d l
     → d.next < shape.draws
@@ -125,7 +125,7 @@ pub record MidRun (plan : ℕ) (asked : Call) (size orders : ℕ) (held loads : 
   pub row : RowKept plan asked orders history.begun d.loads loads
 
 -- A tick by what the order and the plan ask for is a tick by the plan: the row has the orders that are still to come.
-pub by_plan : (plan : ℕ) (asked : Call) (orders : ℕ) (loads : List ℕ) (held held' : List ℕ) (d : Display) (order : Order) (r : Result Ticked Refusal)
+pub by_plan : (plan : ℕ) (asked : Call) (orders : ℕ) (loads : List ℕ) (held held' : List ℕ) (d : Display) (order : Option Order) (r : Result Ticked Refusal)
     {begun : List Loaded} → RowKept plan asked orders begun d.loads loads
     → ((s : State) → order_asks order s ≡ earliest (drop d.loads (first_loads orders loads)) s)
     → Ticks (job_of asked) (asking (asks_by plan (job_of asked) order)) held held' d r

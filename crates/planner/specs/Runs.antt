@@ -1,12 +1,15 @@
 -- What a tick of a plan, the waits after it and a whole run ask for and ensure, and what comes of a plan.
 use Rattle.std.specs.Prelude.{ℕ, ◌+◌, ◌*◌, ◌-◌, ◌≤◌, ◌<◌, ◌≡◌, List, length, Result, Ok, MatchResult}
 use Rattle.rules.specs.declared.refusal.Refusal.{Refusal}
+use Rattle.rules.specs.declared.refusal.Refusal.TheVariants.{PlanNumber}
+use Rattle.rules.specs.declared.Plan.{Plan}
+use Rattle.choice.specs.Asks.{plan_number}
 use Rattle.rules.specs.Refusing.{refusal_number, refusal_detail}
 use Rattle.rules.specs.declared.Unrolled.{Unrolled}
 use Rattle.rules.specs.Job.{Call, starting_symbols, draws_of, job_of, most_draws}
 use Rattle.rules.specs.LoadList.{head_size, event_size}
 use Rattle.rules.specs.Display.{Run, going, refused}
-use Rattle.rules.specs.Plans.{opt, run_plan, begun_in, rule_of}
+use Rattle.rules.specs.Plans.{opt, run_plan, begun_in, rule_of, last_plan}
 use Rattle.rules.specs.Refusals.{read_call, in_time}
 use Rattle.laws.specs.Limits.{Limits}
 use Rattle.display.specs.Tick.{Room}
@@ -72,6 +75,10 @@ Ended plan asked r loads =
 pub record HasRoom (asked : Call) (shape : Unrolled) (room : List ℕ) : Type 0 where
   pub taken : read_call asked ≡ Ok shape
   pub enough : head_size + event_size * shape.draws ≤ length room
+
+-- The plan of a number, where one has it.
+abbrev pub PlanOf : ℕ → Result Plan Refusal → Type 0
+PlanOf number r = MatchResult r (λ plan. plan_number plan ≡ number) (λ e. (e ≡ PlanNumber) × (last_plan < number))
 
 -- What the code comes to is what a run of the rules comes to: its end at this display, with some slots and some history, or its refusal.
 abbrev pub ComesTo : Run → Result Display Refusal → Type 0

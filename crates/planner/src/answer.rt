@@ -2,27 +2,27 @@
 ghost use Rattle.std.specs.Prelude.{◌≡◌, ◌+◌, ◌*◌, length, ltb};
 ghost use Rattle.rules.specs.Job.{call};
 ghost use Rattle.rules.specs.LoadList.{head_size, event_size};
-ghost use Rattle.rules.specs.Plans.{last_plan};
 ghost use Rattle.rules.specs.Refusals.{planned, answer_of, written_by, lent};
-ghost use Rattle.planner.specs.Runs.{HasPlaces, Prepared, Ended, ComesTo};
+ghost use Rattle.choice.specs.Asks.{plan_number};
+ghost use Rattle.planner.specs.Runs.{HasPlaces, Prepared, Ended, PlanOf, ComesTo};
 
 use crate::run::run_plan;
 use crate::write::write_list;
 use choice::row_of;
 use display::{Display, accepted, refusal};
-use rules::{Answer, MOST_DRAWS, Refusal, Unrolled};
+use rules::{Answer, MOST_DRAWS, Plan, Refusal, Unrolled};
 
 // The run of a plan from the start of the job.
 fn run_from_start(
-    plan: u32,
+    plan: Plan,
     job: &[u8],
     shape: Unrolled,
     row: &[u16],
     orders: u32,
     loads: &mut [u64],
 ) -> Result<Display, Refusal>
-    requires { Prepared plan (call job.now shape.rounds) shape row.now orders loads.old }
-    ensures { Ended plan (call job.now shape.rounds) result loads.new }
+    requires { Prepared (plan_number plan) (call job.now shape.rounds) shape row.now orders loads.old }
+    ensures { Ended (plan_number plan) (call job.now shape.rounds) result loads.new }
 {
     let mut held = sheet::starting_slots(job, shape.slots);
     let slots = shape.slots as usize;
@@ -30,25 +30,30 @@ fn run_from_start(
 }
 
 // The run of a plan of a job that was taken. Conservative works off the loads of opt, so opt runs first.
-fn run_of(plan: u32, job: &[u8], shape: Unrolled, loads: &mut [u64]) -> Result<Display, Refusal>
+fn run_of(plan: Plan, job: &[u8], shape: Unrolled, loads: &mut [u64]) -> Result<Display, Refusal>
     requires { HasPlaces (call job.now shape.rounds) shape loads.old }
-    ensures { Ended plan (call job.now shape.rounds) result loads.new }
+    ensures { Ended (plan_number plan) (call job.now shape.rounds) result loads.new }
 {
-    let draws = shape.draws as usize;
     let all = row_of(job, shape);
-    let row = &all[..draws];
-    if plan != 1 {
+    let row = &all[..shape.draws as usize];
+    let Plan::Conservative = plan else {
         return run_from_start(plan, job, shape, row, 0, loads);
-    }
-    let opt = run_from_start(2, job, shape, row, 0, loads)?;
-    run_from_start(1, job, shape, row, opt.loads, loads)
+    };
+    let opt = run_from_start(Plan::Opt, job, shape, row, 0, loads)?;
+    run_from_start(plan, job, shape, row, opt.loads, loads)
 }
 
 // 6. No plan has this number.
-fn unknown(plan: u32) -> bool
-    ensures { result ≡ ltb last_plan plan }
+fn plan_of(number: u32) -> Result<Plan, Refusal>
+    ensures { PlanOf number result }
 {
-    3 < plan
+    match number {
+        0 => Ok(Plan::Aggressive),
+        1 => Ok(Plan::Conservative),
+        2 => Ok(Plan::Opt),
+        3 => Ok(Plan::Lru),
+        _ => Err(Refusal::PlanNumber),
+    }
 }
 
 // 7. The room is too short for a list of as many events as draws.
@@ -65,9 +70,7 @@ fn carry_out(job: &[u8], plan: u32, rounds: u32, room: &mut [u8]) -> Result<Disp
     ensures writes { room.new ≡ lent (written_by (planned (call job.now rounds) plan (length room.old))) room.old }
 {
     let shape = sheet::read_call(job, rounds)?;
-    if unknown(plan) {
-        return Err(Refusal::PlanNumber);
-    }
+    let plan = plan_of(plan)?;
     if short_room(shape.draws, room.len()) {
         return Err(Refusal::ShortRoom);
     }

@@ -4,7 +4,7 @@ ghost use Rattle.rules.specs.LoadList.{list_bytes};
 ghost use Rattle.rules.specs.Refusals.{event_of, lent};
 ghost use Rattle.planner.specs.Loads.{Fitting, first_loads};
 
-use crate::loads::load_at;
+use crate::loads::{NotedLoad, load_at};
 
 // Writes the head of the list, then the event of each of the first `count` loads of the row at its place.
 pub fn write_list(room: &mut [u8], count: u16, loads: &[u64])
@@ -13,7 +13,7 @@ pub fn write_list(room: &mut [u8], count: u16, loads: &[u64])
 {
     sheet::put_head(room, count);
     for index in 0..count {
-        let load = load_at(loads, index as usize);
-        sheet::put_event(room, index, load.tick, load.slot, load.symbol);
+        let NotedLoad { tick, load, .. } = load_at(loads, index as usize);
+        sheet::put_event(room, index, tick, load.slot, load.symbol);
     }
 }

@@ -1,16 +1,17 @@
 -- The tests are walked in the order of the definition, whatever that order is. A run that is over is written as its loads are noted.
-use Rattle.std.proofs.Common.{ℕ, ◌≡◌, ◌∙◌, refl, Ok, arith}
+use Rattle.std.proofs.Common.{ℕ, ◌≡◌, ◌∙◌, refl, sym, ap, Ok, arith}
 use lib.ListN.{length-replicate}
 use Rattle.std.proofs.lemmas.Result.{err_from_is_err_and}
 use Rattle.rules.specs.declared.refusal.Refusal.TheVariants.{PlanNumber, ShortRoom}
 use Rattle.rules.specs.Job.{call}
 use Rattle.laws.proofs.Verdicts.{end, stop, step}
 use Rattle.laws.proofs.Jobs.{past_call}
-use Rattle.planner.specs.Runs.{Over}
-use Rattle.planner.proofs.Planning.{room_test_lem, roomy, refuses, call_refuses, past_tests, few_loads, fitting, never_refused, over_comes, over_writes}
+use Rattle.choice.specs.Asks.{plan_number}
+use Rattle.planner.specs.Runs.{run_of, Over}
+use Rattle.planner.proofs.Planning.{room_test_lem, no_plan, a_plan, roomy, refuses, call_refuses, past_tests, few_loads, fitting, never_refused, over_comes, over_writes}
 use Rattle.planner.proofs.answer.carry_out.Goals as goal
 
-ruleset walk = (past_call, stop, step, end, room_test_lem)
+ruleset walk = (past_call, no_plan, a_plan, stop, step, end, room_test_lem)
 
 pub returns-in_err-shape : goal.returns-in_err-shape
 returns-in_err-shape c =
@@ -18,15 +19,18 @@ returns-in_err-shape c =
     let (comes, writes) = call_refuses _ c.args.plan c.args.room.now c.read_call.result _ c.read_call.ensures c.in_err-shape.was in
     rw (is, same) (record { comes_to = comes; writes = writes })
 
-pub returns-then-unknown : goal.returns-then-unknown
-returns-then-unknown c =
+pub returns-in_err-plan : goal.returns-in_err-plan
+returns-in_err-plan c =
     let taken : c.read_call.result ≡ Ok c.in_ok-shape.shape = c.in_ok-shape.was in
+    let (e, is, same) = err_from_is_err_and c.from_residual-in_err-plan.result c.from_residual-in_err-plan.ensures.1 in
+    let (number, above) = c.in_err-plan.ensures in
     let (comes, writes) = refuses _ c.args.plan c.args.room.now PlanNumber refl (search walk depth 20 fits 4000) in
-    record { comes_to = comes; writes = writes }
+    rw (is, same, number) (record { comes_to = comes; writes = writes })
 
 pub returns-then-short_room : goal.returns-then-short_room
 returns-then-short_room c =
     let taken : c.read_call.result ≡ Ok c.in_ok-shape.shape = c.in_ok-shape.was in
+    let known : plan_number c.in_ok-plan.plan ≡ c.args.plan = c.in_ok-plan.ensures in
     let (comes, writes) = refuses _ c.args.plan c.args.room.now ShortRoom refl (search walk depth 20 fits 4000) in
     record { comes_to = comes; writes = writes }
 
@@ -42,7 +46,7 @@ overflow_cast-d c =
     let has =
     roomy c.args.job.now c.args.rounds c.read_call.result c.in_ok-shape.shape c.args.room.now c.short_room.result c.read_call.ensures
     c.in_ok-shape.was c.short_room.ensures c.if-short_room.false in
-    let few = few_loads _ c.in_ok-shape.shape has.taken c.args.plan c.run_of.new.loads c.in_ok-d.d c.in_ok-d.ensures in
+    let few = few_loads _ c.in_ok-shape.shape has.taken (plan_number c.in_ok-plan.plan) c.run_of.new.loads c.in_ok-d.d c.in_ok-d.ensures in
     omega arith
 
 pub write_list-requires : goal.write_list-requires
@@ -50,7 +54,7 @@ write_list-requires c =
     let has =
     roomy c.args.job.now c.args.rounds c.read_call.result c.in_ok-shape.shape c.args.room.now c.short_room.result c.read_call.ensures
     c.in_ok-shape.was c.short_room.ensures c.if-short_room.false in
-    fitting _ c.in_ok-shape.shape has.taken c.args.plan c.run_of.new.loads c.in_ok-d.d c.in_ok-d.ensures
+    fitting _ c.in_ok-shape.shape has.taken (plan_number c.in_ok-plan.plan) c.run_of.new.loads c.in_ok-d.d c.in_ok-d.ensures
     (c.run_of.auto.loads ∙ length-replicate {A = ℕ} 4096 0) c.args.room.now has
 
 -- No run of a plan that is carried out is refused.
@@ -59,15 +63,19 @@ returns-in_err-d c =
     let has =
     roomy c.args.job.now c.args.rounds c.read_call.result c.in_ok-shape.shape c.args.room.now c.short_room.result c.read_call.ensures
     c.in_ok-shape.was c.short_room.ensures c.if-short_room.false in
-    absurd (never_refused _ c.in_ok-shape.shape has.taken c.args.plan _ _ c.in_err-d.ensures)
+    absurd (never_refused _ c.in_ok-shape.shape has.taken (plan_number c.in_ok-plan.plan) _ _ c.in_err-d.ensures)
 
 pub returns : goal.returns
 returns c =
     let taken : c.read_call.result ≡ Ok c.in_ok-shape.shape = c.in_ok-shape.was in
+    let known : plan_number c.in_ok-plan.plan ≡ c.args.plan = c.in_ok-plan.ensures in
     let asked = call c.args.job.now c.in_ok-shape.shape.rounds in
-    let over : Over c.args.plan asked c.run_of.new.loads c.in_ok-d.d = c.in_ok-d.ensures in
-    let same = past_tests _ c.args.plan c.args.room.now c.read_call.result _ c.read_call.ensures taken (search walk depth 20 fits 4000) in
+    let over : Over (plan_number c.in_ok-plan.plan) asked c.run_of.new.loads c.in_ok-d.d = c.in_ok-d.ensures in
+    let same =
+    past_tests (call c.args.job.now c.args.rounds) c.args.plan c.args.room.now c.read_call.result _ c.read_call.ensures taken
+    (search walk depth 20 fits 4000)
+    ∙ ap (run_of asked) (sym known) in
     record {
-      comes_to = over_comes asked c.args.plan c.run_of.new.loads c.in_ok-d.d over _ same;
-      writes = over_writes asked c.args.plan c.run_of.new.loads c.in_ok-d.d over _ same c.args.room.now _ c.write_list.ensures;
+      comes_to = over_comes asked (plan_number c.in_ok-plan.plan) c.run_of.new.loads c.in_ok-d.d over _ same;
+      writes = over_writes asked (plan_number c.in_ok-plan.plan) c.run_of.new.loads c.in_ok-d.d over _ same c.args.room.now _ c.write_list.ensures;
     }

@@ -2,7 +2,7 @@
 use Rattle.std.proofs.Common.{◌≡◌, ℕ, List, length, take, sym, ◌∙◌, arith}
 use Rattle.rules.specs.Job.{Call, call, most_draws}
 use Rattle.laws.proofs.Jobs.{limits}
-use Rattle.planner.proofs.Planning.{row_draws, row_size, row_long, few_loads, loads_by_plan, never_refused}
+use Rattle.planner.proofs.Planning.{row_draws, row_size, row_long, few_loads, loads_by_plan, never_refused, not_conservative}
 use Rattle.rules.specs.declared.Unrolled.{Unrolled}
 use Rattle.choice.specs.Rows.{row_of}
 use Rattle.planner.specs.Runs.{HasPlaces, Prepared, Over}
@@ -32,7 +32,7 @@ alone plan asked shape row loads has copied other =
     }
 
 pub run_from_start-requires : goal.run_from_start-requires
-run_from_start-requires c = alone _ _ _ _ _ c.requires c.row_of-all.ensures c.if-plan-ne1.true
+run_from_start-requires c = alone _ _ _ _ _ c.requires c.row_of-all.ensures (not_conservative c.args.plan c.in_default.not-Conservative)
 
 pub run_from_start-requires-2 : goal.run_from_start-requires-2
 run_from_start-requires-2 c = alone _ _ _ _ _ c.requires c.row_of-all.ensures (λ one. omega arith)

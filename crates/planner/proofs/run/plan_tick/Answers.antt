@@ -7,12 +7,12 @@ use Rattle.display.proofs.Keeps.{land_keeps}
 use Rattle.display.proofs.Landed.{landed_awaits}
 use Rattle.display.proofs.Steps.{tick_so}
 use Rattle.display.proofs.Views.{lands_so}
-use Rattle.choice.specs.Asks.{asks_by}
+use Rattle.choice.specs.Asks.{plan_number, asks_by}
 use Rattle.planner.proofs.Walks.{asked_landed}
 use Rattle.planner.proofs.run.plan_tick.Goals as goal
 
-pub asked_of-asked-requires : goal.asked_of-asked-requires
-asked_of-asked-requires c =
+pub asked_by-asked-requires : goal.asked_by-asked-requires
+asked_by-asked-requires c =
     let a = c.args in
     let held₁ = c.land-landed.new.slots in
     let l = c.land-landed.result in
@@ -49,9 +49,9 @@ returns c =
     sym (c.land-landed.auto.slots ∙ c.requires.size ∙ ap (λ (s : Unrolled). s.slots) limits.shaped) in
     let symbol = c.draw_symbol-symbol.result in
     let asks =
-    asked_landed a.plan a.order a.row.now held₁ a.d l symbol c.asked_of-asked.result limits landed c.requires.remains
-    c.draw_symbol-symbol.ensures size c.requires.draws c.asked_of-asked.ensures in
-    (tick_so job (asking (asks_by a.plan job a.order)) a.held.now held₁ _ a.d l _ c.asked_of-asked.result symbol true _
+    asked_landed (plan_number a.plan) a.order a.row.now held₁ a.d l symbol c.asked_by-asked.result limits landed c.requires.remains
+    c.draw_symbol-symbol.ensures size c.requires.draws c.asked_by-asked.ensures in
+    (tick_so job (asking (asks_by (plan_number a.plan) job a.order)) a.held.now held₁ _ a.d l _ c.asked_by-asked.result symbol true _
     c.land-landed.ensures.display c.land-landed.ensures.slots asks (λ h. refl)
     (landed_awaits symbol limits landed c.requires.remains c.draw_symbol-symbol.ensures) size
     (sym (ap (λ (s : Unrolled). s.load_time) limits.shaped)) limits.some_load_time c.rest_of_tick.ensures).ticks
