@@ -1,9 +1,9 @@
 -- What each plan asks for in a state with no load under way, told from what the searches found.
 use Prim.Native.Nat.{ℕ, zero, suc, ◌+◌, ◌-◌, ◌<◌, ◌≤◌}
 use native.Mathlib.Omega.{arith}
-use mathlib.Core.Path.{◌≡◌, refl, sym, ap, ◌∙◌}
-use mathlib.Core.Bool.{Bool, true, false, cond, not, ◌&&◌}
-use mathlib.Core.List.{List, ◌++◌, reverse}
+use mathlib.Core.Path.{◌≡◌, refl, sym, ◌∙◌}
+use mathlib.Core.Bool.{false, cond, ◌&&◌}
+use mathlib.Core.List.{List}
 use lib.ListN.{length, get_or, take, drop, length-drop}
 use lib.Seq.{take_all}
 use lib.Dec.{ltb, leb}
@@ -12,14 +12,13 @@ use Rattle.std.specs.Prelude.{Option, Some, None}
 use Rattle.rules.specs.declared.Load.{Load}
 use Rattle.rules.specs.declared.Loading.{Loading}
 use Rattle.rules.specs.declared.Loading.TheVariants.{Idle}
-use Rattle.rules.specs.Basics.{place, stands}
+use Rattle.rules.specs.Basics.{place}
 use Rattle.rules.specs.Job.{Job}
-use Rattle.rules.specs.Display.{load, State, idle, awaited}
-use Rattle.rules.specs.Plans.{rank, furthest, behind, both_ways, missing, aggressive, on_demand, opt_slot, opt, lru, earliest_at}
+use Rattle.rules.specs.Display.{load, State, idle}
+use Rattle.rules.specs.Plans.{rank, furthest, missing, aggressive, earliest_at}
 use Rattle.choice.specs.declared.ask.Order.{Order}
-use Rattle.choice.specs.declared.ask.Order.TheVariants.{Due, Nothing}
-use Rattle.choice.specs.Ranks.{Ranks, Greatest, facing}
-use Rattle.choice.specs.Asks.{Quiet, Seen, OnDemand, order_asks, asks_by}
+use Rattle.choice.specs.Ranks.{Ranks, Greatest}
+use Rattle.choice.specs.Asks.{Quiet, asks_by}
 use Rattle.choice.proofs.Ranking.{chosen_by, led}
 
 -- The parts of a state that a plan looks at, put in one by one.
@@ -71,24 +70,6 @@ module _ (job : Job) (s : State) (slots rest : List ℕ) (still : Quiet job s sl
           (aggressive_from_lem
           ∙ rw (← first, ← is_furthest, lt-ltb p (length rest) within, le-leb p (rank rest (get_or slots q 0)) (omega (arith, own_rank))))
 
--- ---- On demand
-
-module _ (job : Job) (s : State) (slot : State → ℕ) (slots : List ℕ) (x : ℕ) (still : Quiet job s slots) (next : awaited s ≡ x) where
-  demand_from : Loading → List ℕ → ℕ → Option Load
-  demand_from loading row y = cond (idle loading && not (stands y row)) (Some (load (slot s) y)) None
-
-  demand_from_lem : (on_demand slot).asks s ≡ demand_from Idle slots x
-  unfolding demand_from
-  demand_from_lem = ap3 demand_from still.idle still.held next
-
-  pub demand_held : stands x slots ≡ true → None ≡ (on_demand slot).asks s
-  unfolding demand_from
-  demand_held held = sym (demand_from_lem ∙ rw held)
-
-  pub demand_missing : stands x slots ≡ false → (q : ℕ) → q ≡ slot s → Some (load q x) ≡ (on_demand slot).asks s
-  unfolding demand_from
-  demand_missing absent q chosen = sym (demand_from_lem ∙ rw (absent, ← chosen))
-
 -- ---- Conservative
 
 module _ (job : Job) (s : State) (slots rest : List ℕ) (next miss q x : ℕ) (still : Quiet job s slots) (remain : s.rest ≡ rest)
@@ -108,64 +89,20 @@ module _ (job : Job) (s : State) (slots rest : List ℕ) (next miss q x : ℕ) (
   unfolding earliest_from
   earliest_now late = sym (earliest_from_lem ∙ rw (at, le-leb miss (next + place (get_or slots q 0) rest) late))
 
--- ---- By the plan's number
+-- ---- By the plan
 
-module _ (job : Job) (order : Order) (s : State) (r : Option Load) where
-  pub by_aggressive : (plan : ℕ) → plan ≡ 0 → r ≡ (aggressive job).asks s → r ≡ asks_by plan job order s
-  by_aggressive zero e asks = asks
-  by_aggressive (suc plan) e asks = absurd (omega arith)
-
-  pub by_order : (plan : ℕ) → plan ≡ 1 → r ≡ order_asks order s → r ≡ asks_by plan job order s
-  by_order zero e asks = absurd (omega arith)
-  by_order (suc zero) e asks = asks
-  by_order (suc (suc plan)) e asks = absurd (omega arith)
-
-  by_opt : (plan : ℕ) → plan ≡ 2 → r ≡ (opt job).asks s → r ≡ asks_by plan job order s
-  by_opt zero e asks = absurd (omega arith)
-  by_opt (suc zero) e asks = absurd (omega arith)
-  by_opt (suc (suc zero)) e asks = asks
-  by_opt (suc (suc (suc plan))) e asks = absurd (omega arith)
-
-  by_lru : (plan : ℕ) → 3 ≤ plan → r ≡ (lru job).asks s → r ≡ asks_by plan job order s
-  by_lru zero e asks = absurd (omega arith)
-  by_lru (suc zero) e asks = absurd (omega arith)
-  by_lru (suc (suc zero)) e asks = absurd (omega arith)
-  by_lru (suc (suc (suc plan))) e asks = asks
-
-  -- Lru looks back along the draws made, opt both ways.
-  module _ (slots row : List ℕ) (at symbol : ℕ) (seen : Seen job s slots row at symbol) where
-    chosen_in : (look : State → List ℕ) (looked : List ℕ) → look s ≡ looked → furthest job (look s) s.slots ≡ furthest job looked slots
-    chosen_in look looked e =
-        ap (λ (l : List ℕ). furthest job l s.slots) e ∙ ap (λ (l : List ℕ). furthest job looked l) seen.quiet.held
-
-    made_is : behind job s ≡ reverse (take at row)
-    made_is = ap (λ (n : ℕ). reverse (take n job.draws)) seen.next ∙ ap (λ (l : List ℕ). reverse (take at l)) seen.draws
-
-    asks_opt : (plan : ℕ) → plan ≡ 2 → (rest : List ℕ) → rest ≡ drop at row → OnDemand slots (rest ++ reverse (take at row)) symbol r
-        → r ≡ asks_by plan job order s
-    asks_opt plan e rest remain asks =
-        by_opt plan e
-        (asks job s (opt_slot job) seen.quiet seen.awaits
-        (chosen_in (both_ways job) (rest ++ reverse (take at row))
-        (ap (λ (l : List ℕ). l ++ behind job s) (seen.rest ∙ sym remain) ∙ ap (λ (l : List ℕ). rest ++ l) made_is)))
-
-    asks_lru : (plan : ℕ) → 3 ≤ plan → OnDemand slots (reverse (take at row)) symbol r → r ≡ asks_by plan job order s
-    asks_lru plan e asks =
-        by_lru plan e
-        (asks job s (λ z. furthest job (behind job z) z.slots) seen.quiet seen.awaits
-        (chosen_in (behind job) (reverse (take at row)) made_is))
-
-    -- A look back alone is lru's, and a look both ways is opt's.
-    pub asks_demand : (plan : ℕ) (back : Bool) (rest : List ℕ) → rest ≡ drop at row → OnDemand slots (facing back rest (take at row)) symbol r
-        → (back ≡ true → 3 ≤ plan) → (back ≡ false → plan ≡ 2) → r ≡ asks_by plan job order s
-    asks_demand plan true rest remain asks alone both = asks_lru plan (alone refl) asks
-    asks_demand plan false rest remain asks alone both = asks_opt plan (both refl) rest remain asks
+-- Each number above 2 is that of lru.
+pub above_is_lru : (plan : ℕ) (job : Job) (order : Option Order) (s : State) → 3 ≤ plan → asks_by 3 job order s ≡ asks_by plan job order s
+above_is_lru zero job order s above = absurd (omega arith)
+above_is_lru (suc zero) job order s above = absurd (omega arith)
+above_is_lru (suc (suc zero)) job order s above = absurd (omega arith)
+above_is_lru (suc (suc (suc plan))) job order s above = refl
 
 -- While a load is under way no plan asks for another.
-pub asks_busy : (plan : ℕ) (job : Job) (order : Order) (s : State) → idle s.loading ≡ false → None ≡ asks_by plan job order s
+pub asks_busy : (plan : ℕ) (job : Job) (order : Option Order) (s : State) → idle s.loading ≡ false → None ≡ asks_by plan job order s
 asks_busy zero job order s busy = rw busy
-asks_busy (suc zero) job (Due miss q x) s busy = rw busy
-asks_busy (suc zero) job Nothing s busy = refl
+asks_busy (suc zero) job (Some o) s busy = rw busy
+asks_busy (suc zero) job None s busy = refl
 asks_busy (suc (suc zero)) job order s busy = rw busy
 asks_busy (suc (suc (suc plan))) job order s busy = rw busy
 

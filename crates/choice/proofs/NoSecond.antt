@@ -1,5 +1,5 @@
--- Neither public function of this crate has a second answer. Both ask for the limits of an accepted job, and `asked_of` for the symbol of
--- the next draw.
+-- No public function of this crate has a second answer. All ask for the limits of an accepted job, and `asked_by` and `asked_of` for the
+-- symbol of the next draw.
 use mathlib.Core.Path.{refl}
 use mathlib.Core.List.{[]}
 use lib.ListN.{length, drop}
@@ -10,12 +10,24 @@ use Rattle.display.specs.View.{History}
 use Rattle.choice.specs.Asks.{Lent}
 use Rattle.choice.specs.contracts
 use Rattle.choice.proofs.row.row_of as row_of
+use Rattle.choice.proofs.ask.asked_by as asked_by
 use Rattle.choice.proofs.ask.asked_of as asked_of
 
 pub row_of_one : NoSecond contracts.row_of.ended row_of.Reads.Asked row_of.Reads.Learnt
 row_of_one κs given answer answer' left left' asked p q = (same p q, refl)
 
 -- A job that has these slots and these draws decides what is asked for.
+pub asked_by_one : NoSecond contracts.asked_by.ended asked_by.Reads.Asked asked_by.Reads.Learnt
+asked_by_one κs given answer answer' left left' asked p q =
+    let slots = given.1.0.now in
+    let d = given.1.1.0 in
+    let row = given.1.1.1.0.now in
+    let symbol = given.1.1.1.1.0 in
+    let job : Job = record { slots = length slots; load_time = 1; starting = []; draws = row } in
+    let h : History = record { rest = drop d.next row; made = []; begun = [] } in
+    let fits : Lent job h slots row d symbol = record { many = refl; draws = refl; rest = refl; awaits = asked.awaits } in
+    (same (p h job fits) (q h job fits), refl)
+
 pub asked_of_one : NoSecond contracts.asked_of.ended asked_of.Reads.Asked asked_of.Reads.Learnt
 asked_of_one κs given answer answer' left left' asked p q =
     let slots = given.1.0.now in

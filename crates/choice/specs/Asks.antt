@@ -1,5 +1,5 @@
 -- What a plan asks for, by its number, and how the rules' job and state are seen from what the code is lent.
-use Rattle.std.specs.Prelude.{ℕ, zero, suc, ◌≤◌, ◌≡◌, List, drop, get_or, length, Option, None}
+use Rattle.std.specs.Prelude.{ℕ, zero, suc, ◌≤◌, ◌≡◌, List, drop, get_or, length, Option, Some, None, MatchOption, true, false}
 use Rattle.rules.specs.declared.Load.{Load}
 use Rattle.rules.specs.declared.Loading.TheVariants.{Idle}
 use Rattle.rules.specs.Job.{Job}
@@ -7,16 +7,25 @@ use Rattle.rules.specs.Display.{State, awaited}
 use Rattle.rules.specs.Plans.{furthest, on_demand, aggressive, opt, lru, earliest_at}
 use Rattle.display.specs.declared.state.Display.{Display}
 use Rattle.display.specs.View.{History, view}
+use Rattle.rules.specs.declared.Plan.{Plan}
+use Rattle.rules.specs.declared.Plan.TheVariants.{Aggressive, Conservative, Opt, Lru}
+use Rattle.rules.specs.Basics.{stands}
 use Rattle.choice.specs.declared.ask.Order.{Order}
-use Rattle.choice.specs.declared.ask.Order.TheVariants.{Due, Nothing}
 use Rattle.choice.specs.Ranks.{WithinLimits}
 
--- What conservative asks for, told from the next load of opt.
-abbrev pub order_asks : Order → State → Option Load
-order_asks (Due miss q x) s = earliest_at miss q x s
-order_asks Nothing s = None
+-- The numbers of the plans.
+abbrev pub plan_number : Plan → ℕ
+plan_number Aggressive = 0
+plan_number Conservative = 1
+plan_number Opt = 2
+plan_number Lru = 3
 
-abbrev pub asks_by : ℕ → Job → Order → State → Option Load
+-- What conservative asks for, told from the next load of opt.
+abbrev pub order_asks : Option Order → State → Option Load
+order_asks (Some o) s = earliest_at o.miss o.load.slot o.load.symbol s
+order_asks None s = None
+
+abbrev pub asks_by : ℕ → Job → Option Order → State → Option Load
 asks_by zero job order s = (aggressive job).asks s
 asks_by (suc zero) job order s = order_asks order s
 asks_by (suc (suc zero)) job order s = (opt job).asks s
@@ -54,17 +63,22 @@ pub record Lent (job : Job) (h : History) (slots row : List ℕ) (d : Display) (
   pub awaits : awaited (view slots h d) ≡ symbol
 
 -- What is asked for in this tick, by the plan's number, for every job and history that these slots and this row belong to.
-abbrev pub Asked : ℕ → List ℕ → List ℕ → Display → ℕ → Order → Option Load → Type 0
+abbrev pub Asked : ℕ → List ℕ → List ℕ → Display → ℕ → Option Order → Option Load → Type 0
 Asked plan slots row d symbol order r =
     (h : History) (job : Job) → Lent job h slots row d symbol → r ≡ asks_by plan job order (view slots h d)
 
 -- A load of opt, as early as conservative begins it, with no load under way.
-abbrev pub Earliest : List ℕ → List ℕ → ℕ → ℕ → ℕ → ℕ → Option Load → Type 0
-Earliest slots rest next miss q x r =
-    (job : Job) (s : State) → Quiet job s slots → s.rest ≡ rest → s.next ≡ next → r ≡ earliest_at miss q x s
+abbrev pub Earliest : List ℕ → List ℕ → ℕ → Order → Option Load → Type 0
+Earliest slots rest next o r =
+    (job : Job) (s : State) → Quiet job s slots → s.rest ≡ rest → s.next ≡ next → r ≡ earliest_at o.miss o.load.slot o.load.symbol s
 
 -- A load on demand with no load under way, into the furthest slot along this row.
 abbrev pub OnDemand : List ℕ → List ℕ → ℕ → Option Load → Type 0
 OnDemand slots row symbol r =
     (job : Job) (s : State) (slot : State → ℕ)
     → Quiet job s slots → awaited s ≡ symbol → slot s ≡ furthest job row slots → r ≡ (on_demand slot).asks s
+
+-- A load of the awaited symbol where no slot holds it, into a slot that was chosen.
+abbrev pub OnDemandBy : List ℕ → ℕ → (ℕ → Type 0) → Option Load → Type 0
+OnDemandBy slots symbol Choice r =
+    MatchOption r (stands symbol slots ≡ true) (λ l. (stands symbol slots ≡ false) × (l.symbol ≡ symbol) × Choice l.slot)

@@ -1,5 +1,5 @@
 -- The ranks of the slots along a row of draws, and the slot that is chosen by them.
-use Rattle.std.specs.Prelude.{ℕ, ◌-◌, ◌≤◌, ◌<◌, ◌≡◌, Bool, cond, List, ◌++◌, reverse, length, replicate}
+use Rattle.std.specs.Prelude.{ℕ, ◌-◌, ◌≤◌, ◌<◌, ◌≡◌, List, ◌++◌, length, replicate}
 use Rattle.rules.specs.Basics.{place}
 use Rattle.rules.specs.Job.{Job, most_slots, most_draws}
 use Rattle.rules.specs.Plans.{greatest, ranks_from, furthest}
@@ -10,19 +10,10 @@ pub record WithinLimits (slots row : List ℕ) : Type 0 where
   pub few_slots : length slots ≤ most_slots
   pub few_draws : length row ≤ most_draws
 
--- Slots, draws that remain and draws made, all within them.
-pub record WithinBoth (slots rest made : List ℕ) : Type 0 where
-  pub ahead : WithinLimits slots rest
-  pub behind : WithinLimits slots made
-
 -- A rank for each slot of a job.
 pub record SomeRanks (ranks : List ℕ) : Type 0 where
   pub some_slot : 1 ≤ length ranks
   pub few_slots : length ranks ≤ most_slots
-
--- The row that is looked along: back along the draws made, or both ways.
-abbrev pub facing : Bool → List ℕ → List ℕ → List ℕ
-facing back rest made = cond back (reverse made) (rest ++ reverse made)
 
 -- The ranks of the slots in 64 places, with zeros after them, in every job that has these slots. A load may go into each of them.
 abbrev pub Ranks : List ℕ → List ℕ → List ℕ → Type 0

@@ -3,19 +3,19 @@ ghost use Rattle.std.specs.Prelude.{◌≡◌, get_or};
 ghost use Rattle.rules.specs.Job.{Job};
 ghost use Rattle.rules.specs.Display.{State};
 ghost use Rattle.rules.specs.Plans.{aggressive};
-ghost use Rattle.choice.specs.Ranks.{WithinLimits, WithinBoth, facing};
-ghost use Rattle.choice.specs.Asks.{CanAsk, MayAsk, Quiet, Seen, asks_by, OnDemand, Earliest, Asked};
+ghost use Rattle.choice.specs.Ranks.{WithinLimits};
+ghost use Rattle.choice.specs.Asks.{CanAsk, MayAsk, Quiet, Seen, plan_number, asks_by, OnDemandBy, Earliest, Asked};
 
 use crate::ranks::{first_greatest, free_first, oldest, ranks_of};
 use crate::search::{missing, next_draw, served};
 use display::Display;
-use rules::Load;
+use rules::{Load, Plan};
 
-// The load of opt that conservative has yet to begin: the draw that missed, the slot and the symbol.
-#[derive(Drop)]
-pub enum Order {
-    Due { miss: u16, slot: u8, symbol: u16 },
-    Nothing,
+// The load of opt that conservative has yet to begin, and the draw that missed.
+#[derive(Clone, Copy)]
+pub struct Order {
+    pub miss: u16,
+    pub load: Load,
 }
 
 // Plan 0: the first missing draw's symbol into the furthest slot, unless what that slot holds is drawn before. Its rank says so: it is one
@@ -40,22 +40,16 @@ fn ask_aggressive(slots: &[u16], rest: &[u16]) -> Option<Load>
     })
 }
 
-// Plans 2 and 3: the awaited symbol where no slot holds it, into the furthest slot back along the draws made, or both ways.
-fn ask_on_demand(slots: &[u16], rest: &[u16], made: &[u16], back: bool, symbol: u16) -> Option<Load>
-    requires { WithinBoth slots.now rest.now made.now }
-    ensures { OnDemand slots.now (facing back rest.now made.now) symbol result }
+// Plans 2 and 3: the awaited symbol where no slot holds it, into the slot that is then chosen.
+fn ask_on_demand<F: FnOnce() -> u8>(slots: &[u16], symbol: u16, choice: F) -> Option<Load>
+    requires { F.IsAlwaysCallable choice }
+    ensures { OnDemandBy slots.now symbol (λ q. F.post choice q) result }
 {
     if served(slots, symbol) {
         return None;
     }
-    if back {
-        return Some(Load {
-            slot: oldest(slots, made),
-            symbol,
-        });
-    }
     Some(Load {
-        slot: free_first(slots, rest, made),
+        slot: choice(),
         symbol,
     })
 }
@@ -68,70 +62,75 @@ fn content_of(slots: &[u16], slot: u8) -> u16
 }
 
 // Plan 1: opt's load, as soon as what goes out is not drawn again before the draw that missed.
-fn ask_earliest(
-    slots: &[u16],
-    rest: &[u16],
-    next: u16,
-    miss: u16,
-    slot: u8,
-    symbol: u16,
-) -> Option<Load>
+fn ask_earliest(slots: &[u16], rest: &[u16], next: u16, order: Order) -> Option<Load>
     requires { WithinLimits slots.now rest.now }
-    ensures { Earliest slots.now rest.now next miss slot symbol result }
+    ensures { Earliest slots.now rest.now next order result }
 {
-    let outgoing = next_draw(rest, content_of(slots, slot));
-    if next as usize + outgoing < miss as usize {
+    let outgoing = next_draw(rest, content_of(slots, order.load.slot));
+    if next as usize + outgoing < order.miss as usize {
         return None;
     }
-    Some(Load { slot, symbol })
+    Some(order.load)
 }
 
 // What the plan asks for with no load under way: lru looks back along the draws made, opt both ways, each other plan along the draws that
 // remain.
 fn choose(
-    plan: u32,
+    plan: Plan,
     slots: &[u16],
     row: &[u16],
     next: u16,
     symbol: u16,
-    order: Order,
+    order: Option<Order>,
 ) -> Option<Load>
     requires { CanAsk slots.now row.now next }
-    ensures { (job : Job) (s : State) → Seen job s slots.now row.now next symbol → result ≡ asks_by plan job order s }
+    ensures { (job : Job) (s : State) → Seen job s slots.now row.now next symbol → result ≡ asks_by (plan_number plan) job order s }
 {
-    let at = next as usize;
-    if plan == 0 {
-        return ask_aggressive(slots, &row[at..]);
+    let made = &row[..next as usize];
+    let rest = &row[next as usize..];
+    match plan {
+        Plan::Aggressive => ask_aggressive(slots, rest),
+        Plan::Conservative => ask_earliest(slots, rest, next, order?),
+        Plan::Opt => ask_on_demand(slots, symbol, || free_first(slots, rest, made)),
+        Plan::Lru => ask_on_demand(slots, symbol, || oldest(slots, made)),
     }
-    if plan == 1 {
-        let Order::Due {
-            miss,
-            slot,
-            symbol: ordered,
-        } = order
-        else {
-            return None;
-        };
-        return ask_earliest(slots, &row[at..], next, miss, slot, ordered);
-    }
-    let back = 2 < plan;
-    ask_on_demand(slots, &row[at..], &row[..at], back, symbol)
 }
 
 // What the plan asks for in this tick, with the draws in their row. Where a load is under way nothing is looked for.
+pub fn asked_by(
+    plan: Plan,
+    slots: &[u16],
+    d: Display,
+    row: &[u16],
+    symbol: u16,
+    order: Option<Order>,
+) -> Option<Load>
+    requires { MayAsk slots.now row.now d symbol }
+    ensures { Asked (plan_number plan) slots.now row.now d symbol order result }
+{
+    if d.remaining != 0 {
+        return None;
+    }
+    choose(plan, slots, row, d.next, symbol, order)
+}
+
+// The same by the plan's number. As in the rules, each number above 2 is lru.
 pub fn asked_of(
     plan: u32,
     slots: &[u16],
     d: Display,
     row: &[u16],
     symbol: u16,
-    order: Order,
+    order: Option<Order>,
 ) -> Option<Load>
     requires { MayAsk slots.now row.now d symbol }
     ensures { Asked plan slots.now row.now d symbol order result }
 {
-    if d.remaining != 0 {
-        return None;
-    }
-    choose(plan, slots, row, d.next, symbol, order)
+    let plan = match plan {
+        0 => Plan::Aggressive,
+        1 => Plan::Conservative,
+        2 => Plan::Opt,
+        _ => Plan::Lru,
+    };
+    asked_by(plan, slots, d, row, symbol, order)
 }

@@ -6,5 +6,5 @@ mod ranks;
 mod row;
 mod search;
 
-pub use ask::{Order, asked_of};
+pub use ask::{Order, asked_by, asked_of};
 pub use row::row_of;

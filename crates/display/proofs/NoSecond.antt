@@ -18,6 +18,7 @@ use Rattle.display.proofs.still.pass_waits as pass_waits
 use Rattle.display.proofs.still.smaller as smaller
 use Rattle.display.proofs.tick.load_refusal as load_refusal
 use Rattle.display.proofs.tick.draw_or_wait as draw_or_wait
+use Rattle.display.proofs.tick.rest_of_tick as rest_of_tick
 
 -- Where a contract holds for every history and every job, one of each decides the answer.
 nothing : History
@@ -68,3 +69,9 @@ pass_waits_one κs given answer answer' left left' asked p q = (same p q, refl)
 
 pub draw_or_wait_one : NoSecond contracts.draw_or_wait.ended draw_or_wait.Reads.Asked draw_or_wait.Reads.Learnt
 draw_or_wait_one κs given answer answer' left left' asked p q = (same p q, refl)
+
+pub rest_of_tick_one : NoSecond contracts.rest_of_tick.ended rest_of_tick.Reads.Asked rest_of_tick.Reads.Learnt
+rest_of_tick_one κs given answer answer' left left' asked p q =
+    let job : Job = record { slots = length given.0.now; load_time = 1; starting = []; draws = [] } in
+    (same (p.result nothing job refl) (q.result nothing job refl),
+    λ i. (same (p.slots_after nothing job refl) (q.slots_after nothing job refl) i, (tt, (tt, (tt, (tt, (tt, tt)))))))

@@ -1,9 +1,9 @@
 -- The three steps of a tick of the code, one after the other, are a tick of the rules, by any rule.
-use Prim.Native.Nat.{ℕ}
+use Prim.Native.Nat.{ℕ, ◌≤◌}
 use mathlib.Core.Path.{◌≡◌, refl, sym, ap, ◌∙◌}
 use mathlib.Core.Bool.{Bool, false}
 use mathlib.Core.List.{List, [], ◌∷◌, ◌++◌}
-use lib.ListN.{get_or, drop}
+use lib.ListN.{length, get_or, drop}
 use lib.Dec.{eqb}
 use Rattle.std.specs.Prelude.{Result, Ok, Err, IfOk}
 use native.Mathlib.Omega.{arith}
@@ -24,8 +24,10 @@ use Rattle.laws.proofs.Verdicts.{Each, met_by}
 use Rattle.display.specs.declared.state.Display.{Display}
 use Rattle.display.specs.declared.tick.Ticked.{Ticked}
 use Rattle.display.specs.View.{History, view, awaiting, history_begun, history_made, onward, Lands}
-use Rattle.display.specs.Tick.{DrawnOrWaited, Counted, Ticks, Recorded, OnRecord, refusal_of_load, refused_by, asked_refusal, leads, Missed}
-use Rattle.display.proofs.Ticks.{same_happening}
+use Rattle.display.specs.Tick.{DrawnOrWaited, Counted, Ticks, Recorded, OnRecord, refusal_of_load, refused_by, asked_refusal, gone_on, held_on, WentOn, leads, Missed}
+use Rattle.display.specs.Moves.{nearer, landed_in, begun_with, drawn_or_waited}
+use Rattle.display.proofs.Views.{lands_so, begins_so}
+use Rattle.display.proofs.Ticks.{same_happening, steps_so}
 use Rattle.display.proofs.Keeps.{LandKeeps, BeginKeeps, land_keeps, begin_keeps, tick_counts}
 
 -- ---- Step 2
@@ -205,3 +207,40 @@ module _ (job : Job) (rule : Rule) (slots slots₁ : List ℕ) (d l : Display)
 
         pub ticks_recorded : OnRecord job rule slots slots₂ d r
         ticks_recorded = record { ticks = ticks_went; recorded = went_recorded r settled.recorded }
+
+-- ---- By what the code asks for
+
+-- What is beside the display has no part in the refusal of a load.
+same_refusal : (job : Job) (asked : Option Load) (slots : List ℕ) (d : Display) (h h' : History)
+    → asked_refusal job asked (view slots h d) ≡ asked_refusal job asked (view slots h' d)
+same_refusal job None slots d h h' = refl
+same_refusal job (Some l) slots d h h' = refl
+
+-- A tick of the code is a tick of the rules by the rule that asks for the same, and the record of it is that of the rules.
+pub tick_so : (job : Job) (rule : Rule) (slots slots₁ slots₂ : List ℕ) (d l : Display) (time : ℕ) (asked : Option Load) (symbol : ℕ) (done : Bool)
+    (r : Result Ticked Refusal)
+    → l ≡ nearer d → slots₁ ≡ landed_in d slots
+    → ((h : History) → h.rest ≡ drop d.next job.draws → asked ≡ rule.asks (view slots₁ h l))
+    → ((h : History) → rule.done (view slots₁ h l) ≡ done)
+    → get_or (drop d.next job.draws) 0 0 ≡ symbol
+    → job.slots ≡ length slots₁ → job.load_time ≡ time → 1 ≤ time
+    → WentOn time slots₁ slots₂ l asked symbol done r
+    → OnRecord job rule slots slots₂ d r
+tick_so job rule slots slots₁ slots₂ d l time asked symbol done r is landed asks ends awaits size timed some went =
+    by_refusal (asked_refusal job asked (view slots₁ (awaiting symbol) l)) (λ h. same_refusal job asked slots₁ l h (awaiting symbol))
+    (went.result (awaiting symbol) job size) (went.slots_after (awaiting symbol) job size)
+  where
+    lands : Lands slots d slots₁ l
+    lands = lands_so slots slots₁ d l is landed
+
+    b : Display
+    b = begun_with time asked l
+
+    by_refusal : (v : Result (Unit {0}) Refusal) → ((h : History) → asked_refusal job asked (view slots₁ h l) ≡ v)
+        → r ≡ gone_on v time slots₁ l asked symbol done → slots₂ ≡ held_on v asked slots₁ → OnRecord job rule slots slots₂ d r
+    by_refusal (Ok none) meets same held =
+        ticks_recorded job rule slots slots₁ d l lands asked asks meets slots₂ b
+        (λ h. begins_so time asked slots₁ slots₂ l b some refl held h job timed) symbol awaits done ends r
+        (steps_so slots₂ b asked symbol done r (same ∙ ap (λ (k : List ℕ). drawn_or_waited k b asked symbol done) (sym held)))
+    by_refusal (Err e) meets same held =
+        rw (same, held) (record { ticks = ticks_refused job rule slots slots₁ d l lands asked asks e meets; recorded = tt })

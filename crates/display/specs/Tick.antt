@@ -14,6 +14,7 @@ use Rattle.rules.specs.Refusing.{refusal_number, refusal_detail}
 use Rattle.rules.specs.Display.{State, Run, Rule, going, refused, load_tests, happening_of, happened, record_of, record_at, tick}
 use Rattle.display.specs.declared.state.Display.{Display}
 use Rattle.display.specs.declared.tick.Ticked.{Ticked}
+use Rattle.display.specs.Moves.{begun_with, begun_in, drawn_or_waited}
 use Rattle.display.specs.View.{History, view, awaiting, history_made, onward}
 
 -- The display's counters of ticks, draws, waits and waits since the last draw have room for one more.
@@ -45,6 +46,28 @@ refused_by (met number event) = Err (refusal_of_load number event)
 abbrev pub asked_refusal : Job → Option Load → State → Result (Unit {0}) Refusal
 asked_refusal job None s = Ok tt
 asked_refusal job (Some l) s = refused_by (first_of (load_tests job l.slot l.symbol s))
+
+-- Steps 2 and 3 of a tick, by what the load that is asked for meets: refused, the slots are as they were.
+abbrev pub gone_on : Result (Unit {0}) Refusal → ℕ → List ℕ → Display → Option Load → ℕ → Bool → Result Ticked Refusal
+gone_on (Ok none) time slots d asked symbol done = drawn_or_waited (begun_in asked slots) (begun_with time asked d) asked symbol done
+gone_on (Err e) time slots d asked symbol done = Err e
+
+abbrev pub held_on : Result (Unit {0}) Refusal → Option Load → List ℕ → List ℕ
+held_on (Ok none) asked slots = begun_in asked slots
+held_on (Err e) asked slots = slots
+
+-- Both may come: a load of this time may begin, and then a draw or a wait.
+pub record CanGoOn (time : ℕ) (slots : List ℕ) (d : Display) : Type 0 where
+  pub begins : CanBegin time d
+  pub moves : CanMove slots d
+
+-- What they come to in every job that has these slots, whatever is beside the display.
+pub record WentOn (time : ℕ) (slots slots' : List ℕ) (d : Display) (asked : Option Load) (symbol : ℕ) (done : Bool)
+    (r : Result Ticked Refusal) : Type 0 where
+  pub result : (h : History) (job : Job) → job.slots ≡ length slots
+      → r ≡ gone_on (asked_refusal job asked (view slots h d)) time slots d asked symbol done
+  pub slots_after : (h : History) (job : Job) → job.slots ≡ length slots
+      → slots' ≡ held_on (asked_refusal job asked (view slots h d)) asked slots
 
 -- Where a tick leads, with these slots after it, given what is beside the display once the tick is on record.
 abbrev pub leads : List ℕ → (TickRecord → History) → Result Ticked Refusal → Run

@@ -12,4 +12,4 @@ pub use answer::{accepted, refusal};
 pub use search::slot_of;
 pub use state::{Display, begin, land, start};
 pub use still::{before_end, pass_waits, smaller};
-pub use tick::{Ticked, draw_or_wait, load_refusal};
+pub use tick::{Ticked, draw_or_wait, load_refusal, rest_of_tick};

@@ -5,10 +5,10 @@ ghost use Rattle.rules.specs.Job.{Job, free, most_slots};
 ghost use Rattle.rules.specs.Display.{idle, cause_of, happening_of, stuck};
 ghost use Rattle.display.specs.View.{History, view, loading_of, awaiting};
 ghost use Rattle.display.specs.Moves.{moved_on, drawn_or_waited};
-ghost use Rattle.display.specs.Tick.{Room, CanMove, asked_refusal};
+ghost use Rattle.display.specs.Tick.{Room, CanMove, CanGoOn, asked_refusal, WentOn};
 
 use crate::search::slot_of;
-use crate::state::Display;
+use crate::state::{Display, begin};
 use rules::{Cause, FREE, Happening, Load, Refusal, TickRecord};
 
 // What came of a tick that was not refused: its record, and the display after it.
@@ -123,4 +123,22 @@ pub fn draw_or_wait(
         },
         display: move_on(d, happening),
     })
+}
+
+// Steps 2 and 3 of a tick, once a load that ends in it is in its slot: what is asked for begins, unless it is refused, and then comes the draw
+// or the wait. Who was asked, a list or a plan, is the only difference between a check's tick and a plan's.
+pub fn rest_of_tick(
+    slots: &mut [u16],
+    d: Display,
+    time: u16,
+    asked: Option<Load>,
+    symbol: u16,
+    done: bool,
+) -> Result<Ticked, Refusal>
+    requires { CanGoOn time slots.old d }
+    ensures { WentOn time slots.old slots.new d asked symbol done result }
+{
+    load_refusal(slots, d, asked)?;
+    let begun = begin(slots, d, time, asked);
+    draw_or_wait(slots, begun, asked, symbol, done)
 }

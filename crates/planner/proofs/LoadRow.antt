@@ -17,7 +17,6 @@ use Rattle.rules.specs.Plans.{earliest, opt, run_plan, begun_in}
 use Rattle.laws.proofs.Rows.{length-snoc}
 use Rattle.display.specs.declared.state.Display.{Display}
 use Rattle.display.specs.View.{History, history_begun, history_made, onward}
-use Rattle.choice.specs.declared.ask.Order.TheVariants.{Due, Nothing}
 use Rattle.choice.specs.Asks.{order_asks}
 use Rattle.planner.specs.Loads.{load_of, loads_in, first_loads, noted_load}
 use Rattle.planner.specs.Runs.{Orders}
@@ -43,13 +42,13 @@ length-first count row there =
 
 -- The order of a number is the load of that number, and past the last there is none.
 pub order_there : (count at : ℕ) (row : List ℕ) (t d q x : ℕ) (s : State) → at < count → count ≤ length row
-    → loaded t d q x ≡ load_of (get_or row at 0) → order_asks (Due d q x) s ≡ earliest (drop at (first_loads count row)) s
+    → loaded t d q x ≡ load_of (get_or row at 0) → order_asks (Some (record { miss = d; load = load q x })) s ≡ earliest (drop at (first_loads count row)) s
 order_there count at row t d q x s within there is =
     let inside : at < length (first_loads count row) = let all = length-first count row there in omega arith in
     ap (λ (e : Loaded). earliest (e ∷ drop (suc at) (first_loads count row)) s) (is ∙ sym (load_first count at row within))
     ∙ ap (λ (l : List Loaded). earliest l s) (sym (drop-cons (first_loads count row) at (load_of 0) inside))
 
-pub order_none : (count at : ℕ) (row : List ℕ) (s : State) → count ≤ at → order_asks Nothing s ≡ earliest (drop at (first_loads count row)) s
+pub order_none : (count at : ℕ) (row : List ℕ) (s : State) → count ≤ at → order_asks None s ≡ earliest (drop at (first_loads count row)) s
 order_none count at row s over =
     let few = length-take count (loads_in row) in
     ap (λ (l : List Loaded). earliest l s) (sym (drop_of_length-le (first_loads count row) {i = at} (omega arith)))

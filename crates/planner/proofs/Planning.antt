@@ -1,25 +1,29 @@
 -- A plan of a job that was taken: its run is never refused and is over in time, so every load has a place; and the answers of `plan`.
-use Prim.Native.Nat.{ℕ, ◌+◌, ◌*◌, ◌≤◌}
+use Prim.Native.Nat.{ℕ, ◌+◌, ◌*◌, ◌≤◌, ◌<◌}
 use native.Mathlib.Omega.{arith}
-use mathlib.Core.Path.{◌≡◌, sym, ap, subst, ◌∙◌}
+use mathlib.Core.Path.{◌≡◌, refl, sym, ap, subst, ◌∙◌}
 use mathlib.Core.Bool.{Bool, false, cond}
-use mathlib.Core.List.{List, [], map}
+use mathlib.Core.List.{List, [], ◌∷◌, map}
 use lib.ListN.{length, take, length-take}
-use lib.Dec.{ltb}
-use borrow.Author.Tests.{ltb-false}
-use Rattle.std.specs.Prelude.{Result, Ok}
+use lib.Dec.{ltb, eqb}
+use borrow.Author.Tests.{ltb-false, lt-ltb}
+use Rattle.std.specs.Prelude.{Result, Ok, Err}
 use Rattle.rules.specs.declared.refusal.Refusal.{Refusal}
-use Rattle.rules.specs.declared.Answer.{Answer}
 use Rattle.rules.specs.declared.Unrolled.{Unrolled}
-use Rattle.rules.specs.Order.{clear, met}
-use Rattle.rules.specs.Job.{Call, call, draws_of, job_of, most_draws}
+use Rattle.rules.specs.Order.{Test, test, Verdict, clear, met, first_of}
+use Rattle.rules.specs.Job.{Call, call, unrolled, draws_of, job_of, most_draws}
 use Rattle.rules.specs.LoadList.{head_size, event_size, list_bytes}
 use Rattle.rules.specs.Display.{State, Run, Loaded, going, refused, finished}
-use Rattle.rules.specs.Plans.{run_plan, begun_in, rule_of}
-use Rattle.rules.specs.Refusals.{read_call, short_plan, in_time, plan_tests, planned, event_of, answer_of, written_by, lent}
-use Rattle.laws.proofs.Verdicts.{Gives, gives}
+use Rattle.rules.specs.declared.Plan.{Plan}
+use Rattle.rules.specs.declared.Plan.TheVariants.{Aggressive, Conservative, Opt, Lru}
+use Rattle.rules.specs.Plans.{run_plan, begun_in, rule_of, last_plan}
+use Rattle.choice.specs.Asks.{plan_number}
+use Rattle.rules.specs.Refusing.{refusal_number, refusal_detail, call_refusal}
+use Rattle.rules.specs.Refusals.{call_tests, read_as, read_call, short_plan, in_time, plan_tests, planned, event_of, written_by, lent}
+use Rattle.laws.proofs.Cases.{by_test}
+use Rattle.laws.proofs.Verdicts.{Gives, gives, stop, step}
 use Rattle.laws.specs.Limits.{Limits}
-use Rattle.laws.proofs.Jobs.{limits, proper, same_call}
+use Rattle.laws.proofs.Jobs.{limits, proper, same_call, refused_call}
 use Rattle.plan_laws.proofs.Keeping.{Done}
 use Rattle.plan_laws.proofs.Plans.{Any, plan_done, planned_met, planned_past}
 use Rattle.display.specs.View.{History, view}
@@ -27,7 +31,7 @@ use Rattle.display.specs.declared.state.Display.{Display}
 use Rattle.choice.specs.Rows.{row_of}
 use Rattle.choice.proofs.Rows.{row_front}
 use Rattle.planner.specs.Loads.{Fitting, first_loads}
-use Rattle.planner.specs.Runs.{run_of, Over, HasRoom, CarriedOut}
+use Rattle.planner.specs.Runs.{run_of, Over, HasRoom, ComesTo}
 
 -- ---- The order of the refusals, as the code meets it
 
@@ -48,23 +52,48 @@ roomy job rounds reading shape room r is taken e fails =
       enough = ltb-false _ _ (sym e ∙ fails);
     }
 
-module _ (asked : Call) (plan : ℕ) (room : List ℕ) (answer : Answer) where
-  -- A plan that is refused leaves the room as it was.
-  pub refuses : (n d : ℕ) → answer ≡ answer_of (refused n d) → Gives (plan_tests asked plan (length room)) (met n d)
-      → (answer ≡ answer_of (planned asked plan (length room))) × (room ≡ lent (written_by (planned asked plan (length room))) room)
-  refuses n d answers g =
-      let is : planned asked plan (length room) ≡ refused n d = planned_met asked plan (length room) n d (gives _ _ g) in
-      (answers ∙ ap answer_of (sym is), rw is)
+module _ (asked : Call) (plan : ℕ) (room : List ℕ) where
+  abbrev comes : Run
+  comes = planned asked plan (length room)
 
-  -- Past all tests it is carried out.
-  pub carries_out : (reading : Result Unrolled Refusal) (shape : Unrolled) (room' : List ℕ) → reading ≡ read_call asked → reading ≡ Ok shape
-      → CarriedOut (call asked.job shape.rounds) plan answer room room'
-      → Gives (plan_tests asked plan (length room)) clear
-      → (answer ≡ answer_of (planned asked plan (length room))) × (room' ≡ lent (written_by (planned asked plan (length room))) room)
-  carries_out reading shape room' is' taken carried g =
-      let is : planned asked plan (length room) ≡ run_of (call asked.job shape.rounds) plan =
-      planned_past asked plan (length room) (gives _ _ g) ∙ ap (λ (a : Call). run_of a plan) (same_call asked shape (sym is' ∙ taken)) in
-      rw is (carried.answers, carried.writes)
+  -- A plan that is refused leaves the room as it was.
+  pub refuses : (e : Refusal) → Gives (plan_tests asked plan (length room)) (met (refusal_number e) (refusal_detail e))
+      → (comes ≡ refused (refusal_number e) (refusal_detail e)) × (room ≡ lent (written_by comes) room)
+  refuses e g =
+      let is : comes ≡ refused (refusal_number e) (refusal_detail e) =
+      planned_met asked plan (length room) (refusal_number e) (refusal_detail e) (gives _ _ g) in
+      (is, rw is)
+
+  -- So does one whose call is refused.
+  pub call_refuses : (reading : Result Unrolled Refusal) (e : Refusal) → reading ≡ read_call asked → reading ≡ Err e
+      → (comes ≡ refused (refusal_number e) (refusal_detail e)) × (room ≡ lent (written_by comes) room)
+  call_refuses reading e is stops = refuses e (refused_call asked reading e _ is stops)
+
+  -- Past all tests it comes to the run of the plan.
+  pub past_tests : (reading : Result Unrolled Refusal) (shape : Unrolled) → reading ≡ read_call asked → reading ≡ Ok shape
+      → Gives (plan_tests asked plan (length room)) clear → comes ≡ run_of (call asked.job shape.rounds) plan
+  past_tests reading shape is taken g =
+      planned_past asked plan (length room) (gives _ _ g) ∙ ap (λ (a : Call). run_of a plan) (same_call asked shape (sym is ∙ taken))
+
+-- Test 6 is met by a number that is no plan's, and passed by that of one of the four.
+pub no_plan : (number : ℕ) (later : List Test) → last_plan < number → Gives (test 6 0 (ltb last_plan number) ∷ later) (met 6 0)
+no_plan number later above = stop _ refl (lt-ltb last_plan number above)
+
+pub a_plan : (plan : Plan) (number : ℕ) (later : List Test) (v : Verdict) → plan_number plan ≡ number → Gives later v
+    → Gives (test 6 0 (ltb last_plan number) ∷ later) v
+a_plan plan number later v e g = step _ refl (known plan e) g
+  where
+    known : (plan : Plan) → plan_number plan ≡ number → ltb last_plan number ≡ false
+    known Aggressive e = rw (← e)
+    known Conservative e = rw (← e)
+    known Opt e = rw (← e)
+    known Lru e = rw (← e)
+
+pub not_conservative : (plan : Plan) → (plan ≡ Conservative → ⊥) → plan_number plan ≡ 1 → ⊥
+not_conservative Aggressive other e = omega arith
+not_conservative Conservative other e = other refl
+not_conservative Opt other e = omega arith
+not_conservative Lru other e = omega arith
 
 -- ---- The run
 
@@ -89,10 +118,10 @@ module _ (asked : Call) (shape : Unrolled) (taken : read_call asked ≡ Ok shape
   ends_last : run_of asked plan ≡ going done.last
   ends_last = ap in_time done.ran ∙ last_in_time done.last done.over
 
-  -- No plan is refused with 15.
-  pub never_late : run_of asked plan ≡ refused 15 0 → ⊥
-  never_late late =
-      let same : refused 15 0 ≡ going done.last = sym late ∙ ends_last in
+  -- No run of a plan is refused.
+  pub never_refused : (n d : ℕ) → run_of asked plan ≡ refused n d → ⊥
+  never_refused n d halts =
+      let same : refused n d ≡ going done.last = sym halts ∙ ends_last in
       let z : ◌≡◌ {A = ℕ} 0 1 = cc in
       omega arith
 
@@ -132,22 +161,15 @@ module _ (asked : Call) (shape : Unrolled) (taken : read_call asked ≡ Ok shape
 
 -- ---- The answer
 
--- A run that is over answers its counts and writes its loads, and one that is not is refused with 15.
-module _ (asked : Call) (plan : ℕ) (loads : List ℕ) where
-  pub carried_over : (d : Display) (over : Over plan asked loads d) (room room' : List ℕ) (answer : Answer)
-      → answer ≡ answer_of (going (view over.held over.history d))
-      → room' ≡ lent (list_bytes (map event_of (first_loads d.loads loads))) room
-      → CarriedOut asked plan answer room room'
-  carried_over d over room room' answer answers writes =
-      record {
-        answers = answers ∙ ap answer_of (sym over.ends);
-        writes =
-            writes
-            ∙ ap (λ (l : List Loaded). lent (list_bytes (map event_of l)) room) (sym over.noted)
-            ∙ ap (λ (x : Run). lent (written_by x) room) (sym over.ends);
-      }
+-- A run that is over comes to its display and writes its loads.
+module _ (asked : Call) (plan : ℕ) (loads : List ℕ) (d : Display) (over : Over plan asked loads d) (comes : Run)
+    (same : comes ≡ run_of asked plan) where
+  pub over_comes : ComesTo comes (Ok d)
+  over_comes = (over.held, over.history, same ∙ over.ends)
 
-  pub carried_late : (room : List ℕ) (answer : Answer) → run_of asked plan ≡ refused 15 0 → answer ≡ answer_of (refused 15 0)
-      → CarriedOut asked plan answer room room
-  carried_late room answer late answers =
-      record { answers = answers ∙ ap answer_of (sym late); writes = ap (λ (x : Run). lent (written_by x) room) (sym late) }
+  pub over_writes : (room room' : List ℕ) → room' ≡ lent (list_bytes (map event_of (first_loads d.loads loads))) room
+      → room' ≡ lent (written_by comes) room
+  over_writes room room' writes =
+      writes
+      ∙ ap (λ (l : List Loaded). lent (list_bytes (map event_of l)) room) (sym over.noted)
+      ∙ ap (λ (x : Run). lent (written_by x) room) (sym (same ∙ over.ends))

@@ -5,8 +5,8 @@ use mathlib.Core.Path.{◌≡◌, refl, sym, ap, ◌∙◌}
 use mathlib.Core.Bool.{true, false}
 use mathlib.Core.List.{List, [], ◌∷◌}
 use lib.ListN.{length, get_or, drop}
-use borrow.Author.Tests.{eq-eqb}
-use Rattle.std.specs.Prelude.{Option, None}
+use Rattle.std.specs.Prelude.{Option, None, Result, Ok, Err}
+use Rattle.rules.specs.declared.refusal.Refusal.{Refusal}
 use Rattle.rules.specs.declared.Load.{Load}
 use Rattle.rules.specs.declared.Unrolled.{Unrolled}
 use Rattle.rules.specs.Basics.{number16}
@@ -38,7 +38,7 @@ use Rattle.planner.proofs.LoadRow.{RowKept}
 -- ---- The rule
 
 -- A tick goes by what the rule asks for in the landed state alone, so conservative may be told from its next load.
-same_tick : (plan : ℕ) (job : Job) (order : Order) (s : State)
+same_tick : (plan : ℕ) (job : Job) (order : Option Order) (s : State)
     → (plan ≡ 1 → order_asks order (land s) ≡ earliest (drop s.loads (begun_in (run_plan job (opt job)))) (land s))
     → tick job (asking (asks_by plan job order)) s ≡ tick job (rule_of job plan) s
 unfolding tick
@@ -48,7 +48,7 @@ same_tick (suc zero) job order s e =
 same_tick (suc (suc zero)) job order s e = refl
 same_tick (suc (suc (suc plan))) job order s e = refl
 
-pub ruled : (plan : ℕ) (job : Job) (order : Order) (held held' : List ℕ) (d : Display) (r : Ticked)
+pub ruled : (plan : ℕ) (job : Job) (order : Option Order) (held held' : List ℕ) (d : Display) (r : Result Ticked Refusal)
     → (plan ≡ 1 → (s : State) → order_asks order s ≡ earliest (drop d.loads (begun_in (run_plan job (opt job)))) s)
     → Ticks job (asking (asks_by plan job order)) held held' d r → Ticks job (rule_of job plan) held held' d r
 ruled plan job order held held' d r ordered ticks =
@@ -59,7 +59,7 @@ ruled plan job order held held' d r ordered ticks =
     }
 
 -- What is asked for with the landed display at hand is what the plan asks for in its state.
-pub asked_landed : {asked : Call} {shape : Unrolled} (plan : ℕ) (order : Order) (row held : List ℕ) (d l : Display) (symbol : ℕ) (load : Option Load)
+pub asked_landed : {asked : Call} {shape : Unrolled} (plan : ℕ) (order : Option Order) (row held : List ℕ) (d l : Display) (symbol : ℕ) (load : Option Load)
     → Limits asked shape
     → LandKeeps d l
     → d.next < shape.draws
@@ -125,7 +125,7 @@ pub record MidRun (plan : ℕ) (asked : Call) (size orders : ℕ) (held loads : 
   pub row : RowKept plan asked orders history.begun d.loads loads
 
 -- A tick by what the order and the plan ask for is a tick by the plan: the row has the orders that are still to come.
-pub by_plan : (plan : ℕ) (asked : Call) (orders : ℕ) (loads : List ℕ) (held held' : List ℕ) (d : Display) (order : Order) (r : Ticked)
+pub by_plan : (plan : ℕ) (asked : Call) (orders : ℕ) (loads : List ℕ) (held held' : List ℕ) (d : Display) (order : Option Order) (r : Result Ticked Refusal)
     {begun : List Loaded} → RowKept plan asked orders begun d.loads loads
     → ((s : State) → order_asks order s ≡ earliest (drop d.loads (first_loads orders loads)) s)
     → Ticks (job_of asked) (asking (asks_by plan (job_of asked) order)) held held' d r
@@ -171,24 +171,21 @@ module _ (job : Job) (rule : Rule) where
       ends_late late =
           ap in_time (going_late job rule last_tick held d h w.along late) ∙ rw (going_more job rule last_tick held d h w.along within)
 
-      module _ (early : d.tick < last_tick) (held' : List ℕ) (r : Ticked) (ticks : Ticks job rule held held' d r) where
-        pub ends_refused : (r.number ≡ 0 → ⊥) → in_time (run_plan job rule) ≡ refused 15 0
-        ends_refused some = ap in_time (going_refused job rule last_tick held d h w.along within early held' r ticks some)
+      module _ (early : d.tick < last_tick) (held' : List ℕ) where
+        pub ends_refused : (e : Refusal) → Ticks job rule held held' d (Err e) → in_time (run_plan job rule) ≡ refused 15 0
+        ends_refused e ticks = ap in_time (going_refused job rule last_tick held d h w.along within early held' e ticks)
 
         -- Otherwise it goes on, after the waits that follow the tick.
-        module _ (went : r.number ≡ 0) (later : Display)
+        module _ (r : Ticked) (ticks : Ticks job rule held held' d (Ok r)) (later : Display)
             (rested : Rested (LoadUnderWay r.display) last_tick r.on_record.happening r.display later)
             (still : (m : ℕ) → LoadUnderWay r.display m → (j : ℕ) → j < m
             → Quiet job rule held' (onward d r.on_record h) (passed j r.display)) where
-          leads_on : going (view held' (onward d r.on_record h) r.display) ≡ tick job rule (view held h d)
-          leads_on = rw (eq-eqb r.number 0 went) at (ticks.run h w.along.rest)
-
           pub walking_on : Walking job rule held' later (onward d r.on_record h)
           walking_on =
               record {
-                along = going_on job rule last_tick held d h w.along within early held' r ticks went (LoadUnderWay r.display) later rested still;
+                along = going_on job rule last_tick held d h w.along within early held' r ticks (LoadUnderWay r.display) later rested still;
                 listed =
                     listed_kept (view held h d) (view held' (onward d r.on_record h) r.display)
-                    (is_more h.rest (going_more job rule last_tick held d h w.along within)) w.listed (sym leads_on)
+                    (is_more h.rest (going_more job rule last_tick held d h w.along within)) w.listed (sym (ticks.run h w.along.rest))
                     ∙ sym (ap (λ (e : Display). e.loads) rested.passes);
               }

@@ -1,12 +1,16 @@
 -- What a tick of a plan, the waits after it and a whole run ask for and ensure, and what comes of a plan.
-use Rattle.std.specs.Prelude.{ℕ, ◌+◌, ◌*◌, ◌-◌, ◌≤◌, ◌<◌, ◌≡◌, List, length, Option, MatchOption, Ok}
-use Rattle.rules.specs.declared.Answer.{Answer}
+use Rattle.std.specs.Prelude.{ℕ, ◌+◌, ◌*◌, ◌-◌, ◌≤◌, ◌<◌, ◌≡◌, List, length, Result, Ok, MatchResult}
+use Rattle.rules.specs.declared.refusal.Refusal.{Refusal}
+use Rattle.rules.specs.declared.refusal.Refusal.TheVariants.{PlanNumber}
+use Rattle.rules.specs.declared.Plan.{Plan}
+use Rattle.choice.specs.Asks.{plan_number}
+use Rattle.rules.specs.Refusing.{refusal_number, refusal_detail}
 use Rattle.rules.specs.declared.Unrolled.{Unrolled}
 use Rattle.rules.specs.Job.{Call, starting_symbols, draws_of, job_of, most_draws}
 use Rattle.rules.specs.LoadList.{head_size, event_size}
 use Rattle.rules.specs.Display.{Run, going, refused}
-use Rattle.rules.specs.Plans.{opt, run_plan, begun_in, rule_of}
-use Rattle.rules.specs.Refusals.{read_call, in_time, answer_of, written_by, lent}
+use Rattle.rules.specs.Plans.{opt, run_plan, begun_in, rule_of, last_plan}
+use Rattle.rules.specs.Refusals.{read_call, in_time}
 use Rattle.laws.specs.Limits.{Limits}
 use Rattle.display.specs.Tick.{Room}
 use Rattle.display.specs.View.{History, view}
@@ -62,16 +66,23 @@ pub record Over (plan : ℕ) (asked : Call) (loads : List ℕ) (d : Display) : T
   pub noted : history.begun ≡ first_loads d.loads loads
   pub few : d.loads ≤ length (draws_of asked)
 
--- What came of it: it is over at a display, or refused with 15.
-abbrev pub Ended : ℕ → Call → Option Display → List ℕ → Type 0
-Ended plan asked r loads = MatchOption r (run_of asked plan ≡ refused 15 0) (Over plan asked loads)
+-- What came of it: it is over at a display, or refused.
+abbrev pub Ended : ℕ → Call → Result Display Refusal → List ℕ → Type 0
+Ended plan asked r loads =
+    MatchResult r (Over plan asked loads) (λ e. run_of asked plan ≡ refused (refusal_number e) (refusal_detail e))
 
 -- A job that was taken with this shape, and room for a list of as many events as draws.
 pub record HasRoom (asked : Call) (shape : Unrolled) (room : List ℕ) : Type 0 where
   pub taken : read_call asked ≡ Ok shape
   pub enough : head_size + event_size * shape.draws ≤ length room
 
--- The answer to the run of a plan, and what the lent room holds then.
-pub record CarriedOut (asked : Call) (plan : ℕ) (answer : Answer) (room room' : List ℕ) : Type 0 where
-  pub answers : answer ≡ answer_of (run_of asked plan)
-  pub writes : room' ≡ lent (written_by (run_of asked plan)) room
+-- The plan of a number, where one has it.
+abbrev pub PlanOf : ℕ → Result Plan Refusal → Type 0
+PlanOf number r = MatchResult r (λ plan. plan_number plan ≡ number) (λ e. (e ≡ PlanNumber) × (last_plan < number))
+
+-- What the code comes to is what a run of the rules comes to: its end at this display, with some slots and some history, or its refusal.
+abbrev pub ComesTo : Run → Result Display Refusal → Type 0
+ComesTo run r =
+    MatchResult r
+    (λ d. (held : List ℕ) × (history : History) × (run ≡ going (view held history d)))
+    (λ e. run ≡ refused (refusal_number e) (refusal_detail e))

@@ -2,27 +2,27 @@
 ghost use Rattle.std.specs.Prelude.{◌≡◌, ◌+◌, ◌*◌, length, ltb};
 ghost use Rattle.rules.specs.Job.{call};
 ghost use Rattle.rules.specs.LoadList.{head_size, event_size};
-ghost use Rattle.rules.specs.Plans.{last_plan};
 ghost use Rattle.rules.specs.Refusals.{planned, answer_of, written_by, lent};
-ghost use Rattle.planner.specs.Runs.{HasPlaces, Prepared, Ended, HasRoom, CarriedOut};
+ghost use Rattle.choice.specs.Asks.{plan_number};
+ghost use Rattle.planner.specs.Runs.{HasPlaces, Prepared, Ended, PlanOf, ComesTo};
 
 use crate::run::run_plan;
 use crate::write::write_list;
 use choice::row_of;
 use display::{Display, accepted, refusal};
-use rules::{Answer, MOST_DRAWS, Unrolled};
+use rules::{Answer, MOST_DRAWS, Plan, Refusal, Unrolled};
 
 // The run of a plan from the start of the job.
 fn run_from_start(
-    plan: u32,
+    plan: Plan,
     job: &[u8],
     shape: Unrolled,
     row: &[u16],
     orders: u32,
     loads: &mut [u64],
-) -> Option<Display>
-    requires { Prepared plan (call job.now shape.rounds) shape row.now orders loads.old }
-    ensures { Ended plan (call job.now shape.rounds) result loads.new }
+) -> Result<Display, Refusal>
+    requires { Prepared (plan_number plan) (call job.now shape.rounds) shape row.now orders loads.old }
+    ensures { Ended (plan_number plan) (call job.now shape.rounds) result loads.new }
 {
     let mut held = sheet::starting_slots(job, shape.slots);
     let slots = shape.slots as usize;
@@ -30,25 +30,30 @@ fn run_from_start(
 }
 
 // The run of a plan of a job that was taken. Conservative works off the loads of opt, so opt runs first.
-fn run_of(plan: u32, job: &[u8], shape: Unrolled, loads: &mut [u64]) -> Option<Display>
+fn run_of(plan: Plan, job: &[u8], shape: Unrolled, loads: &mut [u64]) -> Result<Display, Refusal>
     requires { HasPlaces (call job.now shape.rounds) shape loads.old }
-    ensures { Ended plan (call job.now shape.rounds) result loads.new }
+    ensures { Ended (plan_number plan) (call job.now shape.rounds) result loads.new }
 {
-    let draws = shape.draws as usize;
     let all = row_of(job, shape);
-    let row = &all[..draws];
-    if plan != 1 {
+    let row = &all[..shape.draws as usize];
+    let Plan::Conservative = plan else {
         return run_from_start(plan, job, shape, row, 0, loads);
-    }
-    let opt = run_from_start(2, job, shape, row, 0, loads)?;
-    run_from_start(1, job, shape, row, opt.loads, loads)
+    };
+    let opt = run_from_start(Plan::Opt, job, shape, row, 0, loads)?;
+    run_from_start(plan, job, shape, row, opt.loads, loads)
 }
 
 // 6. No plan has this number.
-fn unknown(plan: u32) -> bool
-    ensures { result ≡ ltb last_plan plan }
+fn plan_of(number: u32) -> Result<Plan, Refusal>
+    ensures { PlanOf number result }
 {
-    3 < plan
+    match number {
+        0 => Ok(Plan::Aggressive),
+        1 => Ok(Plan::Conservative),
+        2 => Ok(Plan::Opt),
+        3 => Ok(Plan::Lru),
+        _ => Err(Refusal::PlanNumber),
+    }
 }
 
 // 7. The room is too short for a list of as many events as draws.
@@ -58,17 +63,21 @@ fn short_room(draws: u16, room: usize) -> bool
     room < sheet::list_size(draws as u32)
 }
 
-// The run of a plan of a job that was taken, and its list in room enough. Nothing is written before the last refusal is past.
-fn carry_out(job: &[u8], shape: Unrolled, plan: u32, room: &mut [u8]) -> Answer
-    requires { HasRoom (call job.now shape.rounds) shape room.old }
-    ensures { CarriedOut (call job.now shape.rounds) plan result room.old room.new }
+// The display at the end of the run of a plan, with the run's list in the room; or the first refusal that is met. Nothing is written before
+// the last refusal is past.
+fn carry_out(job: &[u8], plan: u32, rounds: u32, room: &mut [u8]) -> Result<Display, Refusal>
+    ensures comes_to { ComesTo (planned (call job.now rounds) plan (length room.old)) result }
+    ensures writes { room.new ≡ lent (written_by (planned (call job.now rounds) plan (length room.old))) room.old }
 {
+    let shape = sheet::read_call(job, rounds)?;
+    let plan = plan_of(plan)?;
+    if short_room(shape.draws, room.len()) {
+        return Err(Refusal::ShortRoom);
+    }
     let mut loads = [0; MOST_DRAWS as usize];
-    let Some(d) = run_of(plan, job, shape, &mut loads) else {
-        return refusal(15, 0);
-    };
+    let d = run_of(plan, job, shape, &mut loads)?;
     write_list(room, d.loads as u16, &loads);
-    accepted(d)
+    Ok(d)
 }
 
 // Plans this many rounds of the job and writes the list from the room's first byte on. Where the plan is refused, the room is as it was.
@@ -76,15 +85,8 @@ pub fn plan(job: &[u8], plan: u32, rounds: u32, room: &mut [u8]) -> Answer
     ensures answers { result ≡ answer_of (planned (call job.now rounds) plan (length room.old)) }
     ensures writes { room.new ≡ lent (written_by (planned (call job.now rounds) plan (length room.old))) room.old }
 {
-    let reading = sheet::read_call(job, rounds);
-    let Ok(shape) = reading else {
-        return refusal(sheet::call_number(reading), 0);
-    };
-    if unknown(plan) {
-        return refusal(6, 0);
+    match carry_out(job, plan, rounds, room) {
+        Ok(d) => accepted(d),
+        Err(reason) => refusal(reason),
     }
-    if short_room(shape.draws, room.len()) {
-        return refusal(7, 0);
-    }
-    carry_out(job, shape, plan, room)
 }

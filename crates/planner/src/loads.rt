@@ -9,57 +9,57 @@ ghost use Rattle.planner.specs.Loads.{load_of, loads_in, first_loads, noted_load
 use choice::Order;
 use rules::Load;
 
-// A load on record: the tick in which it begins, the draw that is next in that tick, the slot and the symbol.
-#[derive(Drop)]
+// A load on record: the tick in which it begins, the draw that is next in that tick, and the load.
+#[derive(Clone, Copy)]
 pub struct NotedLoad {
     pub tick: u32,
     pub draw: u16,
-    pub slot: u8,
-    pub symbol: u16,
+    pub load: Load,
 }
 
 // The four numbers of a load in one. The tick of a load is below 2^23, so all of them fit.
-fn packed(tick: u32, draw: u16, slot: u8, symbol: u16) -> u64
+fn packed(tick: u32, draw: u16, load: Load) -> u64
     requires { tick ≤ last_tick }
-    ensures { load_of result ≡ loaded tick draw slot symbol }
+    ensures { load_of result ≡ loaded tick draw load.slot load.symbol }
 {
-    ((tick as u64 * 65536 + draw as u64) * 256 + slot as u64) * 65536 + symbol as u64
+    ((tick as u64 * 65536 + draw as u64) * 256 + load.slot as u64) * 65536 + load.symbol as u64
 }
 
 // The load that a number holds.
 fn unpacked(number: u64) -> NotedLoad
-    ensures { loaded result.tick result.draw result.slot result.symbol ≡ load_of number }
+    ensures { loaded result.tick result.draw result.load.slot result.load.symbol ≡ load_of number }
 {
     NotedLoad {
         tick: (number / 65536 / 256 / 65536) as u32,
         draw: (number / 65536 / 256 % 65536) as u16,
-        slot: (number / 65536 % 256) as u8,
-        symbol: (number % 65536) as u16,
+        load: Load {
+            slot: (number / 65536 % 256) as u8,
+            symbol: (number % 65536) as u16,
+        },
     }
 }
 
 // The load of this number.
 pub fn load_at(loads: &[u64], at: usize) -> NotedLoad
     requires { at < length loads.now }
-    ensures { loaded result.tick result.draw result.slot result.symbol ≡ load_of (get_or loads.now at 0) }
+    ensures { loaded result.tick result.draw result.load.slot result.load.symbol ≡ load_of (get_or loads.now at 0) }
 {
     unpacked(loads[at])
 }
 
 // The load of this number as conservative works it off, if it is one of the first `orders` loads of the row.
-pub fn order_at(loads: &[u64], orders: u32, at: u32) -> Order
+pub fn order_at(loads: &[u64], orders: u32, at: u32) -> Option<Order>
     requires { orders ≤ length loads.now }
     ensures { (s : State) → order_asks result s ≡ earliest (drop at (first_loads orders loads.now)) s }
 {
     if orders <= at {
-        return Order::Nothing;
+        return None;
     }
-    let load = load_at(loads, at as usize);
-    Order::Due {
-        miss: load.draw,
-        slot: load.slot,
-        symbol: load.symbol,
-    }
+    let noted = load_at(loads, at as usize);
+    Some(Order {
+        miss: noted.draw,
+        load: noted.load,
+    })
 }
 
 // Notes the load that begins in a tick, if one does, as the load of this number. A plan begins at most one load to a draw, so a row of
@@ -75,5 +75,5 @@ pub fn note(loads: &mut [u64], at: u32, tick: u32, draw: u16, begun: Option<Load
     if loads.len() <= place {
         return;
     }
-    loads[place] = packed(tick, draw, load.slot, load.symbol);
+    loads[place] = packed(tick, draw, load);
 }

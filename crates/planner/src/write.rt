@@ -4,7 +4,7 @@ ghost use Rattle.rules.specs.LoadList.{list_bytes};
 ghost use Rattle.rules.specs.Refusals.{event_of, lent};
 ghost use Rattle.planner.specs.Loads.{Fitting, first_loads};
 
-use crate::loads::load_at;
+use crate::loads::{NotedLoad, load_at};
 use rules::Event;
 
 // Writes the head of the list, then the event of each of the first `count` loads of the row at its place.
@@ -15,9 +15,9 @@ pub fn write_list(room: &mut [u8], count: u16, loads: &[u64])
     // The room was found long enough.
     let _ = sheet::put_head(room, count);
     for index in 0..count {
-        let load = load_at(loads, index as usize);
+        let NotedLoad { tick, load, .. } = load_at(loads, index as usize);
         let event = Event {
-            tick: load.tick,
+            tick,
             slot: load.slot,
             symbol: load.symbol,
         };

@@ -1,12 +1,11 @@
 -- The row begins with the draws. Conservative has the loads of opt to work off, any other plan none.
 use Rattle.std.proofs.Common.{◌≡◌, ℕ, List, length, take, sym, ◌∙◌, arith}
-use Rattle.rules.specs.Display.{refused}
 use Rattle.rules.specs.Job.{Call, call, most_draws}
 use Rattle.laws.proofs.Jobs.{limits}
-use Rattle.planner.proofs.Planning.{row_draws, row_size, row_long, few_loads, loads_by_plan, never_late}
+use Rattle.planner.proofs.Planning.{row_draws, row_size, row_long, few_loads, loads_by_plan, never_refused, not_conservative}
 use Rattle.rules.specs.declared.Unrolled.{Unrolled}
 use Rattle.choice.specs.Rows.{row_of}
-use Rattle.planner.specs.Runs.{run_of, HasPlaces, Prepared, Over}
+use Rattle.planner.specs.Runs.{HasPlaces, Prepared, Over}
 use Rattle.planner.proofs.answer.run_of.Goals as goal
 
 pub row_of-all-requires : goal.row_of-all-requires
@@ -33,7 +32,7 @@ alone plan asked shape row loads has copied other =
     }
 
 pub run_from_start-requires : goal.run_from_start-requires
-run_from_start-requires c = alone _ _ _ _ _ c.requires c.row_of-all.ensures c.if-plan-ne1.true
+run_from_start-requires c = alone _ _ _ _ _ c.requires c.row_of-all.ensures (not_conservative c.args.plan c.in_default.not-Conservative)
 
 pub run_from_start-requires-2 : goal.run_from_start-requires-2
 run_from_start-requires-2 c = alone _ _ _ _ _ c.requires c.row_of-all.ensures (λ one. omega arith)
@@ -57,6 +56,4 @@ run_from_start-requires-3 c =
 
 -- Opt is always over in time.
 pub returns-in_err-opt : goal.returns-in_err-opt
-returns-in_err-opt c =
-    let late : run_of (call c.args.job.now c.args.shape.rounds) 2 ≡ refused 15 0 = c.in_err-opt.ensures in
-    absurd (never_late _ c.args.shape c.requires.taken 2 late)
+returns-in_err-opt c = absurd (never_refused _ c.args.shape c.requires.taken 2 _ _ c.in_err-opt.ensures)

@@ -5,5 +5,6 @@ use Rattle.planner.proofs.loads.order_at.Goals as goal
 pub returns : goal.returns
 returns c =
     let a = c.args in
-    let load = c.load_at-load.result in
-    λ s. order_there a.orders a.at a.loads.now load.tick load.draw load.slot load.symbol s c.if-orders-at.false c.requires c.load_at-load.ensures
+    let noted = c.load_at-noted.result in
+    λ s. order_there a.orders a.at a.loads.now noted.tick noted.draw noted.load.slot noted.load.symbol s c.if-orders-at.false c.requires
+    c.load_at-noted.ensures

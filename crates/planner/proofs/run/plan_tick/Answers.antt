@@ -3,18 +3,16 @@ use Rattle.std.proofs.Common.{◌≡◌, ℕ, List, length, get_or, drop, refl, 
 use Rattle.rules.specs.declared.Unrolled.{Unrolled}
 use Rattle.rules.specs.Job.{call, job_of}
 use Rattle.rules.specs.Plans.{asking}
-use Rattle.display.specs.declared.tick.Ticked.{Ticked}
 use Rattle.display.proofs.Keeps.{land_keeps}
 use Rattle.display.proofs.Landed.{landed_awaits}
-use Rattle.display.proofs.Steps.{ticks_refused, ticks_went}
-use Rattle.display.proofs.Ticks.{steps_so}
-use Rattle.display.proofs.Views.{lands_so, begins_so}
-use Rattle.choice.specs.Asks.{asks_by}
+use Rattle.display.proofs.Steps.{tick_so}
+use Rattle.display.proofs.Views.{lands_so}
+use Rattle.choice.specs.Asks.{plan_number, asks_by}
 use Rattle.planner.proofs.Walks.{asked_landed}
 use Rattle.planner.proofs.run.plan_tick.Goals as goal
 
-pub asked_of-asked-requires : goal.asked_of-asked-requires
-asked_of-asked-requires c =
+pub asked_by-asked-requires : goal.asked_by-asked-requires
+asked_by-asked-requires c =
     let a = c.args in
     let held₁ = c.land-landed.new.slots in
     let l = c.land-landed.result in
@@ -37,51 +35,23 @@ asked_of-asked-requires c =
           ∙ awaits;
     }
 
-pub returns-then-number-ne0 : goal.returns-then-number-ne0
-returns-then-number-ne0 c =
-    let a = c.args in
-    let asked = call a.job.now a.shape.rounds in
-    let job = job_of asked in
-    let rule = asking (asks_by a.plan job a.order) in
-    let held = a.held.now in
-    let held₁ = c.land-landed.new.slots in
-    let l = c.land-landed.result in
-    let limits = c.requires.limits in
-    let lands = lands_so held held₁ a.d l c.land-landed.ensures.display c.land-landed.ensures.slots in
-    let landed = land_keeps held held₁ a.d l lands in
-    let size : job.slots ≡ length held₁ =
-    sym (c.land-landed.auto.slots ∙ c.requires.size ∙ ap (λ (s : Unrolled). s.slots) limits.shaped) in
-    let symbol = c.draw_symbol-symbol.result in
-    let asks =
-    asked_landed a.plan a.order a.row.now held₁ a.d l symbol c.asked_of-asked.result limits landed c.requires.remains
-    c.draw_symbol-symbol.ensures size c.requires.draws c.asked_of-asked.ensures in
-    ticks_refused job rule held held₁ a.d l lands c.asked_of-asked.result asks c.load_refusal-number.result
-    (λ h. c.load_refusal-number.ensures h job size) c.if-number-ne0.true c.refused_load.result
-    (ap (λ (t : Ticked). t.number) c.refused_load.ensures) (ap (λ (t : Ticked). t.detail) c.refused_load.ensures)
-
 pub returns : goal.returns
 returns c =
     let a = c.args in
     let asked = call a.job.now a.shape.rounds in
     let job = job_of asked in
-    let rule = asking (asks_by a.plan job a.order) in
-    let held = a.held.now in
     let held₁ = c.land-landed.new.slots in
     let l = c.land-landed.result in
     let limits = c.requires.limits in
-    let lands = lands_so held held₁ a.d l c.land-landed.ensures.display c.land-landed.ensures.slots in
-    let landed = land_keeps held held₁ a.d l lands in
+    let lands = lands_so a.held.now held₁ a.d l c.land-landed.ensures.display c.land-landed.ensures.slots in
+    let landed = land_keeps a.held.now held₁ a.d l lands in
     let size : job.slots ≡ length held₁ =
     sym (c.land-landed.auto.slots ∙ c.requires.size ∙ ap (λ (s : Unrolled). s.slots) limits.shaped) in
     let symbol = c.draw_symbol-symbol.result in
     let asks =
-    asked_landed a.plan a.order a.row.now held₁ a.d l symbol c.asked_of-asked.result limits landed c.requires.remains
-    c.draw_symbol-symbol.ensures size c.requires.draws c.asked_of-asked.ensures in
-    let begins =
-    begins_so _ c.asked_of-asked.result held₁ c.begin-begun.new.slots l c.begin-begun.result limits.some_load_time
-    c.begin-begun.ensures.display c.begin-begun.ensures.slots in
-    let time = sym (ap (λ (s : Unrolled). s.load_time) limits.shaped) in
-    let awaits = landed_awaits symbol limits landed c.requires.remains c.draw_symbol-symbol.ensures in
-    ticks_went job rule held held₁ a.d l lands c.asked_of-asked.result asks c.load_refusal-number.result
-    (λ h. c.load_refusal-number.ensures h job size) c.if-number-ne0.false c.begin-begun.new.slots c.begin-begun.result
-    (λ h. begins h job time) symbol awaits true (λ h. refl) c.draw_or_wait.result (steps_so _ _ _ _ _ _ c.draw_or_wait.ensures)
+    asked_landed (plan_number a.plan) a.order a.row.now held₁ a.d l symbol c.asked_by-asked.result limits landed c.requires.remains
+    c.draw_symbol-symbol.ensures size c.requires.draws c.asked_by-asked.ensures in
+    (tick_so job (asking (asks_by (plan_number a.plan) job a.order)) a.held.now held₁ _ a.d l _ c.asked_by-asked.result symbol true _
+    c.land-landed.ensures.display c.land-landed.ensures.slots asks (λ h. refl)
+    (landed_awaits symbol limits landed c.requires.remains c.draw_symbol-symbol.ensures) size
+    (sym (ap (λ (s : Unrolled). s.load_time) limits.shaped)) limits.some_load_time c.rest_of_tick.ensures).ticks

@@ -1,5 +1,5 @@
 -- The loop goes on as `Walking` says. It is left where no draw remains, no tick is left, or a tick is refused.
-use Rattle.std.proofs.Common.{◌≡◌, ◌<◌, length, refl, sym, ap, ◌∙◌, arith}
+use Rattle.std.proofs.Common.{◌≡◌, ◌<◌, length, refl, sym, ap, ◌∙◌, Ok, Err, arith}
 use Rattle.rules.specs.declared.Unrolled.{Unrolled}
 use Rattle.rules.specs.Job.{call, shape_of, job_of}
 use Rattle.rules.specs.LoadList.{last_tick}
@@ -8,6 +8,7 @@ use Rattle.laws.proofs.Jobs.{limits}
 use Rattle.laws.proofs.Symbols.{length_symbols}
 use Rattle.display.specs.View.{at_first, onward}
 use Rattle.display.proofs.Going.{going_room}
+use Rattle.choice.specs.Asks.{plan_number}
 use Rattle.planner.proofs.LoadRow.{row_start, row_on}
 use Rattle.planner.proofs.Planning.{over_so}
 use Rattle.planner.proofs.Walks.{walking_first, walking_on, calm, by_plan, ends_over, ends_late, ends_refused}
@@ -21,12 +22,12 @@ loop-d-init c =
     record {
       same_size = refl;
       history = at_first (job_of asked);
-      walking = walking_first asked (rule_of (job_of asked) a.plan) a.held.now c.start-d.result c.requires.starts c.start-d.ensures;
-      row = rw c.start-d.ensures (row_start a.plan asked a.orders a.loads.now ready.ordered ready.has_places.places);
+      walking = walking_first asked (rule_of (job_of asked) (plan_number a.plan)) a.held.now c.start-d.result c.requires.starts c.start-d.ensures;
+      row = rw c.start-d.ensures (row_start (plan_number a.plan) asked a.orders a.loads.now ready.ordered ready.has_places.places);
     }
 
-pub plan_tick-ticked-requires : goal.plan_tick-ticked-requires
-plan_tick-ticked-requires c =
+pub plan_tick-requires : goal.plan_tick-requires
+plan_tick-requires c =
     let a = c.args in
     let asked = call a.job.now a.shape.rounds in
     let job = job_of asked in
@@ -37,7 +38,7 @@ plan_tick-ticked-requires c =
     let early : c.loop-d.d.tick < last_tick = c.if-d-ge-LAST_TICK.false in
     let remains : c.loop-d.d.next < a.shape.draws = c.loop-d-test.true in
     let roomy =
-    going_room job (rule_of job a.plan) last_tick _ _ _ c.loop-d.invariant.walking.along early (omega arith) (omega arith) in
+    going_room job (rule_of job (plan_number a.plan)) last_tick _ _ _ c.loop-d.invariant.walking.along early (omega arith) (omega arith) in
     record {
       limits = within;
       draws = ready.draws;
@@ -54,26 +55,26 @@ loop-d-preserved c =
     let a = c.args in
     let asked = call a.job.now a.shape.rounds in
     let job = job_of asked in
-    let rule = rule_of job a.plan in
+    let rule = rule_of job (plan_number a.plan) in
     let l = c.loop-d in
     let kept = l.invariant in
     let h = kept.history in
     let many : length job.draws ≡ a.shape.draws = (limits asked a.shape c.requires.prepared.has_places.taken).many_draws in
     let within : l.d.next < length job.draws = omega (arith, c.loop-d-test.true) in
     let early : l.d.tick < last_tick = c.if-d-ge-LAST_TICK.false in
-    let held' = c.plan_tick-ticked.new.held in
-    let r = c.plan_tick-ticked.result in
+    let held' = c.plan_tick.new.held in
+    let r = c.in-Ok.ticked in
     let ticks =
-    by_plan a.plan asked a.orders l.loads l.held held' l.d _ r kept.row c.order_at-order.ensures c.plan_tick-ticked.ensures in
+    by_plan (plan_number a.plan) asked a.orders l.loads l.held held' l.d _ (Ok r) kept.row c.order_at-order.ensures c.in-Ok.ensures in
     let on =
-    walking_on job rule l.held l.d h kept.walking within early held' r ticks c.if-ticked-ne0.false c.after_waits-d.result
-    c.after_waits-d.ensures (calm a.plan job held' (onward l.d r.on_record h) r.display) in
+    walking_on job rule l.held l.d h kept.walking within early held' r ticks c.after_waits-d.result
+    c.after_waits-d.ensures (calm (plan_number a.plan) job held' (onward l.d r.on_record h) r.display) in
     record {
-      same_size = c.plan_tick-ticked.auto.held ∙ kept.same_size;
+      same_size = c.plan_tick.auto.held ∙ kept.same_size;
       history = onward l.d r.on_record h;
       walking = on;
       row =
-          row_on a.plan asked a.orders l.d h l.loads _ kept.walking.listed kept.row r.on_record c.after_waits-d.result.loads c.note.ensures
+          row_on (plan_number a.plan) asked a.orders l.d h l.loads _ kept.walking.listed kept.row r.on_record c.after_waits-d.result.loads c.note.ensures
           on.listed;
     }
 
@@ -83,19 +84,20 @@ returns-then-d-ge-LAST_TICK c =
     let asked = call a.job.now a.shape.rounds in
     let l = c.loop-d in
     let many = (limits asked a.shape c.requires.prepared.has_places.taken).many_draws in
-    ends_late (job_of asked) (rule_of (job_of asked) a.plan) l.held l.d l.invariant.history l.invariant.walking (rw many c.loop-d-test.true)
+    ends_late (job_of asked) (rule_of (job_of asked) (plan_number a.plan)) l.held l.d l.invariant.history l.invariant.walking (rw many c.loop-d-test.true)
     c.if-d-ge-LAST_TICK.true
 
-pub returns-then-ticked-ne0 : goal.returns-then-ticked-ne0
-returns-then-ticked-ne0 c =
+pub returns-in_default : goal.returns-in_default
+returns-in_default c =
     let a = c.args in
     let asked = call a.job.now a.shape.rounds in
     let l = c.loop-d in
-    let ticked = c.plan_tick-ticked in
+    let held' = c.plan_tick.new.held in
+    let e = c.in_default.field-0 in
     let many = (limits asked a.shape c.requires.prepared.has_places.taken).many_draws in
-    ends_refused (job_of asked) (rule_of (job_of asked) a.plan) l.held l.d l.invariant.history l.invariant.walking (rw many c.loop-d-test.true)
-    c.if-d-ge-LAST_TICK.false ticked.new.held ticked.result
-    (by_plan a.plan asked a.orders l.loads l.held ticked.new.held l.d _ _ l.invariant.row c.order_at-order.ensures ticked.ensures) c.if-ticked-ne0.true
+    ends_refused (job_of asked) (rule_of (job_of asked) (plan_number a.plan)) l.held l.d l.invariant.history l.invariant.walking (rw many c.loop-d-test.true)
+    c.if-d-ge-LAST_TICK.false held' e
+    (by_plan (plan_number a.plan) asked a.orders l.loads l.held held' l.d _ (Err e) l.invariant.row c.order_at-order.ensures c.in_default.ensures)
 
 pub returns : goal.returns
 returns c =
@@ -105,5 +107,5 @@ returns c =
     let l = c.loop-d in
     let kept = l.invariant in
     let many = (limits asked a.shape taken).many_draws in
-    over_so asked a.shape taken a.plan l.held kept.history l.d
-    (ends_over (job_of asked) (rule_of (job_of asked) a.plan) l.held l.d kept.history kept.walking (rw many c.loop-d-test.false)) l.loads kept.row.noted
+    over_so asked a.shape taken (plan_number a.plan) l.held kept.history l.d
+    (ends_over (job_of asked) (rule_of (job_of asked) (plan_number a.plan)) l.held l.d kept.history kept.walking (rw many c.loop-d-test.false)) l.loads kept.row.noted

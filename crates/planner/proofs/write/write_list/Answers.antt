@@ -16,7 +16,7 @@ pub loop-index-preserved : goal.loop-index-preserved
 loop-index-preserved c =
     let a = c.args in
     let l = c.loop-index in
-    let load = c.load_at-load.result in
+    let noted = c.load_at-tick.result in
     rw c.put_event.ensures.written
-    (so_far_more a.count a.loads.now c.requires.there _ l.room l.index load.tick load.draw load.slot load.symbol c.loop-index-test.true
-    c.load_at-load.ensures l.invariant)
+    (so_far_more a.count a.loads.now c.requires.there _ l.room l.index noted.tick noted.draw noted.load.slot noted.load.symbol c.loop-index-test.true
+    c.load_at-tick.ensures l.invariant)
