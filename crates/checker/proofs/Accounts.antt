@@ -267,7 +267,7 @@ module _ (job : Job) (events : List Event) (i x : ℕ) (held : List ℕ) (d : Di
   h' = onward d on h
 
   recorded : on ≡ record_at job rule (view held h d)
-  recorded = t.on_record.recorded refl h g.rest
+  recorded = t.on_record.recorded h g.rest
 
   leads_to : tick job rule (view held h d) ≡ going (view held' h' t.ticked)
   leads_to = sym (t.on_record.ticks.run h g.rest)
@@ -292,13 +292,13 @@ module _ (job : Job) (events : List Event) (i x : ℕ) (held : List ℕ) (d : Di
   many = t.rested.many
 
   one_more : t.ticked.tick ≡ d.tick + 1
-  one_more = (t.on_record.ticks.counts refl).tick
+  one_more = t.on_record.ticks.counts.tick
 
   later_tick : later.tick ≡ t.ticked.tick + many
   later_tick = ap (λ (e : Display). e.tick) t.rested.passes
 
   later_next : later.next ≡ next_after on.happening d.next
-  later_next = ap (λ (e : Display). e.next) t.rested.passes ∙ (t.on_record.ticks.counts refl).next
+  later_next = ap (λ (e : Display). e.next) t.rested.passes ∙ t.on_record.ticks.counts.next
 
   quiets : (j : ℕ) → j < many → Quiet job rule held' h' (passed j t.ticked)
   quiets = calm job events held' h' t.ticked many t.rested.still
@@ -307,13 +307,13 @@ module _ (job : Job) (events : List Event) (i x : ℕ) (held : List ℕ) (d : Di
   goes_more : 0 < many → finished h'.rest ≡ false
   goes_more some =
       ap finished
-      (same_rest job rule (most_ticks job) held d h g t.within t.early held' _ t.on_record.ticks refl (NothingDue events t.ticked) later t.rested
+      (same_rest job rule (most_ticks job) held d h g t.within t.early held' _ t.on_record.ticks (NothingDue events t.ticked) later t.rested
       (calm job events held' h' t.ticked) some)
       ∙ rest_more job.draws h.rest d.next g.rest t.within
 
   none_held : 0 < many → stands (get_or h'.rest 0 0) held' ≡ false
   none_held =
-      absent job rule (most_ticks job) held d h g t.within t.early held' _ t.on_record.ticks refl (NothingDue events t.ticked) later t.rested
+      absent job rule (most_ticks job) held d h g t.within t.early held' _ t.on_record.ticks (NothingDue events t.ticked) later t.rested
       (calm job events held' h' t.ticked)
 
   -- Once the draw is made a turn adds nothing.
@@ -362,7 +362,7 @@ module _ (job : Job) (events : List Event) (i x : ℕ) (held : List ℕ) (d : Di
 
     waited_so : (c : Cause) → on.happening ≡ Wait c → Adds
     waited_so c e =
-        let same_next : t.ticked.next ≡ d.next = (t.on_record.ticks.counts refl).next ∙ ap (λ (hp : Happening). next_after hp d.next) e in
+        let same_next : t.ticked.next ≡ d.next = t.on_record.ticks.counts.next ∙ ap (λ (hp : Happening). next_after hp d.next) e in
         let ahead' : ltb i t.ticked.next ≡ false = rw same_next ahead in
         let one = one_more in
         let ticks = later_tick in

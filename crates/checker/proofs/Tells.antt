@@ -7,6 +7,8 @@ use mathlib.Core.List.{List, []}
 use lib.ListN.{length, drop, length-drop}
 use lib.Dec.{eqb, ltb}
 use borrow.Author.Tests.{lt-ltb}
+use Rattle.std.specs.Prelude.{Ok, Err}
+use Rattle.rules.specs.declared.refusal.Refusal.{Refusal}
 use Rattle.rules.specs.declared.Cause.{Cause}
 use Rattle.rules.specs.declared.Cause.TheVariants.{Awaited, Another, Nothing}
 use Rattle.rules.specs.declared.Happening.{Happening}
@@ -17,7 +19,7 @@ use Rattle.rules.specs.declared.Account.{Account}
 use Rattle.rules.specs.Job.{Job, Call, starting_symbols, job_of, most_load_time, most_draws}
 use Rattle.rules.specs.declared.Event.{Event}
 use Rattle.rules.specs.Display.{State, start}
-use Rattle.rules.specs.Refusals.{due, follow, follows, most_ticks}
+use Rattle.rules.specs.Refusals.{due, follow, most_ticks}
 use Rattle.rules.specs.Why.{untold, more_waits, waits_in, told}
 use Rattle.laws.proofs.Cases.{by_test}
 use Rattle.laws.proofs.Moves.{is_over}
@@ -26,9 +28,8 @@ use Rattle.display.specs.Moves.{started, landed_in}
 use Rattle.display.specs.declared.state.Display.{Display}
 use Rattle.display.proofs.Views.{starts_so}
 use Rattle.display.proofs.Going.{Going}
-use Rattle.checker.specs.declared.checked.Checked.{Checked}
 use Rattle.checker.specs.Follow.{noted}
-use Rattle.checker.specs.Turn.{Closes, EndsAt, GoesOn}
+use Rattle.checker.specs.Turn.{EndsAt, GoesOn}
 use Rattle.checker.specs.Accounts.{going_out, turn_told, Passed, MayTell, RanSo}
 use Rattle.checker.proofs.Walks.{Walking, walked_on, noted_length}
 use Rattle.checker.proofs.Ends.{walking_first, closed}
@@ -109,7 +110,7 @@ module _ (job : Job) (events : List Event) (i x : ℕ) (held : List ℕ) (d : Di
   module _ (held' : List ℕ) (on : TickRecord) (later : Display) (t : GoesOn job events held held' d on later) where
     turn_ticks : (d.tick ≤ later.tick) × (later.tick ≤ most_ticks job)
     turn_ticks =
-        let one_more : t.ticked.tick ≡ d.tick + 1 = (t.on_record.ticks.counts refl).tick in
+        let one_more : t.ticked.tick ≡ d.tick + 1 = t.on_record.ticks.counts.tick in
         let further : later.tick ≡ t.ticked.tick + t.rested.many = ap (λ (e : Display). e.tick) t.rested.passes in
         let fits : t.ticked.tick + t.rested.many ≤ most_ticks job = t.rested.in_its_time in
         (omega arith, omega arith)
@@ -160,24 +161,25 @@ kept_on job events i x held₀ held d a k held' on later a' t size tells =
       slots = noted on.happening (λ q. q) d.next k.slots;
       tick_places = noted_length on.happening (λ q. d.tick) d.next k.ticks ∙ k.tick_places;
       slot_places = noted_length on.happening (λ q. q) d.next k.slots ∙ k.slot_places;
-      walking = walked_on job events held d k.ticks k.slots k.history k.walking t.within t.early held' _ t.on_record.ticks refl later
+      walking = walked_on job events held d k.ticks k.slots k.history k.walking t.within t.early held' _ t.on_record.ticks later
           t.rested _ _ (omega arith) (omega arith) refl refl;
       telling = tells;
     }
 
--- What the end of the run says.
+-- What the end of the run says: the run is refused, or the account is that of the rules.
+pub ran_refused : (job : Job) (events : List Event) (i x : ℕ) (held₀ held : List ℕ) (d : Display) (a : Account)
+    → Kept job events i x held₀ held d a → (e : Refusal) → EndsAt job events held d (Err e) → RanSo job events i x (Err e)
+ran_refused job events i x held₀ held d a k e ends = (closed job events held d k.ticks k.slots k.history k.walking (Err e) ends).concludes
+
 pub ran_out : (job : Job) (events : List Event) (i x : ℕ) (held₀ held : List ℕ) (d : Display) (a : Account)
-    → Kept job events i x held₀ held d a → (r : Checked) → EndsAt job events held d r
-    → RanSo job events i x (record { checked = r; account = a })
-ran_out job events i x held₀ held d a k r ends =
+    → Kept job events i x held₀ held d a → EndsAt job events held d (Ok d) → RanSo job events i x (Ok a)
+ran_out job events i x held₀ held d a k ends =
     let h : History = k.history in
-    let over : Closes (length job.draws) (follows job events) h r k.ticks k.slots =
-    closed job events held d k.ticks k.slots h k.walking r ends in
+    let (goes, done) = (closed job events held d k.ticks k.slots h k.walking (Ok d) ends).concludes in
     record {
-      answers = over.notes.answers;
-      goes = over.goes;
-      accounts = λ within none.
-          let rest : h.rest ≡ [] = is_over h.rest (over.done none) in
+      goes = goes;
+      accounts = λ within.
+          let rest : h.rest ≡ [] = is_over h.rest done in
           let left : length (drop d.next job.draws) ≡ 0 = ap length (sym k.walking.along.rest ∙ rest) in
           let size : length (drop d.next job.draws) ≡ length job.draws - d.next = length-drop d.next job.draws in
           let made : ltb i d.next ≡ true = lt-ltb i d.next (omega arith) in

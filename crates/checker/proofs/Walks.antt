@@ -7,7 +7,7 @@ use mathlib.Core.List.{List, [], ◌∷◌, map, map-append}
 use lib.ListN.{length, take, length-set}
 use lib.Seq.{take-suc-set}
 use borrow.Author.Tests.{lt-leb}
-use Rattle.std.specs.Prelude.{Option, Some, None}
+use Rattle.std.specs.Prelude.{Option, Some, None, Ok}
 use Rattle.rules.specs.declared.Load.{Load}
 use Rattle.rules.specs.declared.Happening.{Happening}
 use Rattle.rules.specs.declared.Happening.TheVariants.{Draw, Wait}
@@ -105,10 +105,10 @@ module _ (job : Job) (events : List Event) where
   -- A tick that was not refused, and the waits after it.
   module _ (held : List ℕ) (d : Display) (ticks slots : List ℕ) (h : History) (w : Walking job events held d ticks slots h)
       (within : d.next < length job.draws) (early : d.tick < most_ticks job) (held' : List ℕ) (r : Ticked)
-      (ticked : Ticks job (follow events) held held' d r) (went : r.number ≡ 0) (later : Display)
+      (ticked : Ticks job (follow events) held held' d (Ok r)) (later : Display)
       (rested : Rested (NothingDue events r.display) (most_ticks job) r.on_record.happening r.display later) where
     counts : Counted 1 r.on_record.happening d r.display
-    counts = ticked.counts went
+    counts = ticked.counts
 
     same_next : later.next ≡ next_after r.on_record.happening d.next
     same_next = ap (λ (e : Display). e.next) rested.passes ∙ counts.next
@@ -122,7 +122,7 @@ module _ (job : Job) (events : List Event) where
     walked_on ticks' slots' room room' at' from' =
         record {
           along =
-              going_on job (follow events) (most_ticks job) held d h w.along within early held' r ticked went
+              going_on job (follow events) (most_ticks job) held d h w.along within early held' r ticked
               (NothingDue events r.display) later rested (calm job events held' (onward d r.on_record h) r.display);
           at =
               noted_more tick_of (λ q. d.tick) d r.on_record.happening (history_begun d r.on_record.begun h) d.next ticks (λ q. refl) room

@@ -1,19 +1,21 @@
 -- What the parts of the account of a draw ask for and ensure.
-use Rattle.std.specs.Prelude.{ℕ, ◌+◌, ◌≤◌, ◌<◌, ◌≡◌, cond, List, length, get_or, eqb, Option, Some, None}
+use Rattle.std.specs.Prelude.{ℕ, ◌+◌, ◌≤◌, ◌<◌, ◌≡◌, cond, List, length, get_or, drop, eqb, Option, Some, None, Result, Ok, Err}
+use Rattle.rules.specs.declared.refusal.Refusal.{Refusal}
 use Rattle.rules.specs.declared.Load.{Load}
 use Rattle.rules.specs.declared.TickRecord.{TickRecord}
 use Rattle.rules.specs.declared.Parts.{Parts}
 use Rattle.rules.specs.declared.Account.{Account}
 use Rattle.rules.specs.declared.Unrolled.{Unrolled}
 use Rattle.rules.specs.declared.Reason.{Reason}
-use Rattle.rules.specs.Job.{Job, Call, free, starting_symbols}
+use Rattle.rules.specs.Refusing.{refusal_number, refusal_detail}
+use Rattle.rules.specs.Job.{Job, Call, free, starting_symbols, draws_of, job_of}
+use Rattle.rules.specs.LoadList.{events_in, head_size}
 use Rattle.rules.specs.declared.Event.{Event}
-use Rattle.rules.specs.Display.{State, going, start}
-use Rattle.rules.specs.Refusals.{answer_of, follow, follows, most_ticks}
-use Rattle.rules.specs.Why.{untold, brought_in, waits_in, told, reason_of}
+use Rattle.rules.specs.Display.{State, going, refused, start}
+use Rattle.rules.specs.Refusals.{follow, follows, most_ticks}
+use Rattle.rules.specs.Why.{untold, brought_in, waits_in, told}
 use Rattle.display.specs.View.{loading_of}
 use Rattle.display.specs.declared.state.Display.{Display}
-use Rattle.checker.specs.declared.run.Ran.{Ran}
 use Rattle.checker.specs.Follow.{BothRead}
 
 -- What a load that is asked for takes out of these slots.
@@ -58,15 +60,22 @@ pub record MayRunTold (asked : Call) (list : List ℕ) (shape : Unrolled) (count
   pub read : BothRead asked list shape count
   pub starts : held ≡ starting_symbols asked.job
 
--- What that run comes to: its answer; and, of an accepted one that has this draw, the account of the rules of draw i, of symbol x.
-pub record RanSo (job : Job) (events : List Event) (i x : ℕ) (r : Ran) : Type 0 where
-  pub answers : r.checked.answer ≡ answer_of (follows job events)
-  pub goes : r.checked.answer.number ≡ 0 → (s : State) × (follows job events ≡ going s)
-  pub accounts : i < length job.draws → r.checked.answer.number ≡ 0 → r.account ≡ told job (follow events) i x (most_ticks job) (start job) untold
+-- A run that is accepted and has draw i, of symbol x, with the account of the rules of it.
+pub record ToldSo (job : Job) (events : List Event) (i x : ℕ) (account : Account) : Type 0 where
+  pub goes : (s : State) × (follows job events ≡ going s)
+  pub accounts : i < length job.draws → account ≡ told job (follow events) i x (most_ticks job) (start job) untold
 
--- What is answered of draw i, of symbol x: the number and detail of the run and, of an accepted one that has this draw, the account of the
--- rules.
-pub record Accounted (job : Job) (events : List Event) (i x : ℕ) (r : Reason) : Type 0 where
-  pub tells : r ≡ reason_of r.account (follows job events)
-  pub goes : r.number ≡ 0 → (s : State) × (follows job events ≡ going s)
-  pub accounts : i < length job.draws → r.number ≡ 0 → r.account ≡ told job (follow events) i x (most_ticks job) (start job) untold
+-- What the run that tells of a draw comes to: the account, or the refusal of the run.
+abbrev pub RanSo : Job → List Event → ℕ → ℕ → Result Account Refusal → Type 0
+RanSo job events i x (Ok account) = ToldSo job events i x account
+RanSo job events i x (Err e) = follows job events ≡ refused (refusal_number e) (refusal_detail e)
+
+-- The same of a call and a list of this many events, with the symbol that the draw has.
+abbrev pub AccountedFor : Call → ℕ → List ℕ → ℕ → Result Account Refusal → Type 0
+AccountedFor asked count list draw r =
+    RanSo (job_of asked) (events_in count (drop head_size list)) draw (get_or (draws_of asked) draw 0) r
+
+-- What a host is told: the account, or the number and detail of a refusal, which tells nothing of the draw.
+abbrev pub reason_in : Result Account Refusal → Reason
+reason_in (Ok account) = record { number = 0; detail = 0; account = account }
+reason_in (Err e) = record { number = refusal_number e; detail = refusal_detail e; account = untold }

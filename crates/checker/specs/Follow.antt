@@ -1,19 +1,40 @@
 -- What the parts of a check ask for and ensure: a tick along a list, the waits after it, the places noted for a draw, and the answer.
-use Rattle.std.specs.Prelude.{ℕ, ◌+◌, ◌-◌, ◌≤◌, ◌<◌, ◌≡◌, true, List, map, length, take, drop, set, None}
+use Rattle.std.specs.Prelude.{ℕ, ◌+◌, ◌-◌, ◌≤◌, ◌<◌, ◌≡◌, true, List, map, length, take, drop, set, None, Result, Ok, Err}
+use Rattle.rules.specs.declared.refusal.Refusal.{Refusal}
+use Rattle.rules.specs.declared.Answer.{Answer}
 use Rattle.rules.specs.declared.Unrolled.{Unrolled}
 use Rattle.rules.specs.declared.Happening.{Happening}
 use Rattle.rules.specs.declared.Happening.TheVariants.{Draw, Wait}
-use Rattle.rules.specs.Job.{Call, starting_symbols, most_draws}
+use Rattle.rules.specs.Refusing.{refusal_number, refusal_detail}
+use Rattle.rules.specs.Job.{Call, starting_symbols, most_draws, job_of}
+use Rattle.rules.specs.LoadList.{events_in, head_size}
 use Rattle.rules.specs.declared.Event.{Event}
-use Rattle.rules.specs.Display.{Run, finished}
-use Rattle.rules.specs.Refusals.{due, closing, answer_of, tick_of, slot_of, ticks_of, slots_of, lent}
+use Rattle.rules.specs.Display.{Run, refused, finished}
+use Rattle.rules.specs.Refusals.{due, closing, follows, answer_of, tick_of, slot_of, ticks_of, slots_of, lent}
 use Rattle.laws.specs.Limits.{Limits}
 use Rattle.sheet.specs.Size.{Sized}
 use Rattle.display.specs.View.{History, view}
 use Rattle.display.specs.Tick.{Room}
 use Rattle.display.specs.Still.{MayRest}
 use Rattle.display.specs.declared.state.Display.{Display}
-use Rattle.checker.specs.declared.checked.Checked.{Checked}
+
+-- The run of a job along a list of this many events.
+abbrev pub runs_along : Call → ℕ → List ℕ → Run
+runs_along asked count list = follows (job_of asked) (events_in count (drop head_size list))
+
+-- What a host is told of a run that ended at a display or was refused: its answer, and the number of draws that go with it.
+abbrev pub answer_in : Result Display Refusal → Answer
+answer_in (Ok d) = record { number = 0; detail = 0; elapsed = d.tick; waits = d.waits; loads = d.loads; longest = d.longest }
+answer_in (Err r) = answer_of (refused (refusal_number r) (refusal_detail r))
+
+abbrev pub draws_made : Result Display Refusal → ℕ
+draws_made (Ok d) = d.next
+draws_made (Err r) = 0
+
+-- The end at a display, or a refusal there.
+abbrev pub ended_at : {A : Type 0} → Display → Result A Refusal → Result Display Refusal
+ended_at d (Ok a) = Ok d
+ended_at d (Err r) = Err r
 
 -- Job and list were read: the job is within its limits, and the list has the size of its events.
 pub record BothRead (asked : Call) (list : List ℕ) (shape : Unrolled) (count : ℕ) : Type 0 where
@@ -51,15 +72,15 @@ pub record MayRun (asked : Call) (list : List ℕ) (shape : Unrolled) (count : �
   pub tick_room : length ticks ≡ most_draws
   pub slot_room : length slots ≡ most_draws
 
--- The answer to a run over n draws, and how many of them are noted at the front of the two buffers.
-pub record Noted (n : ℕ) (run : Run) (r : Checked) (ticks slots : List ℕ) : Type 0 where
-  pub answers : r.answer ≡ answer_of run
-  pub few : r.draws ≤ n
-  pub at : take r.draws ticks ≡ ticks_of run
-  pub from : take r.draws slots ≡ slots_of run
+-- The end of a run over n draws, and how many of them are noted at the front of the two buffers.
+pub record Noted (n : ℕ) (run : Run) (r : Result Display Refusal) (ticks slots : List ℕ) : Type 0 where
+  pub answers : answer_in r ≡ answer_of run
+  pub few : draws_made r ≤ n
+  pub at : take (draws_made r) ticks ≡ ticks_of run
+  pub from : take (draws_made r) slots ≡ slots_of run
 
 -- The end of a run at a display with every draw made, along any list of this many events.
-pub record Ended (count : ℕ) (d : Display) (r : Checked) : Type 0 where
+pub record Ended (count : ℕ) (d : Display) (r : Result Display Refusal) : Type 0 where
   pub shows : (held : List ℕ) (n : ℕ) (h : History) (events : List Event) (ticks slots : List ℕ)
       → length events ≡ count
       → finished h.rest ≡ true
@@ -81,9 +102,9 @@ pub record HasRoom (asked : Call) (list : List ℕ) (shape : Unrolled) (count : 
   pub tick_room : shape.draws ≤ length ticks
   pub slot_room : shape.draws ≤ length slots
 
--- The answer to a run, the number of its draws, and what the two lent buffers hold later.
-pub record HandedOut (run : Run) (r : Checked) (ticks ticks' slots slots' : List ℕ) : Type 0 where
-  pub answers : r.answer ≡ answer_of run
-  pub many : r.draws ≡ length (ticks_of run)
+-- The end of a run, the number of its draws, and what the two lent buffers hold later.
+pub record HandedOut (run : Run) (r : Result Display Refusal) (ticks ticks' slots slots' : List ℕ) : Type 0 where
+  pub answers : answer_in r ≡ answer_of run
+  pub many : draws_made r ≡ length (ticks_of run)
   pub at : ticks' ≡ lent (ticks_of run) ticks
   pub from : slots' ≡ lent (slots_of run) slots

@@ -1,15 +1,15 @@
 // The check of a list against a job: every refusal in its order, then the run, whose draws are handed out only where it is accepted.
-ghost use Rattle.std.specs.Prelude.{◌≡◌, ◌||◌, length, drop, ltb};
-ghost use Rattle.rules.specs.Job.{call, job_of};
-ghost use Rattle.rules.specs.LoadList.{events_in, head_size};
-ghost use Rattle.rules.specs.Refusals.{checked, follows, answer_of, ticks_of, slots_of, lent};
-ghost use Rattle.checker.specs.Follow.{HasRoom, HandedOut};
+ghost use Rattle.std.specs.Prelude.{◌≡◌, ◌||◌, length, ltb};
+ghost use Rattle.rules.specs.Job.{call};
+ghost use Rattle.rules.specs.Refusals.{checked, answer_of, ticks_of, slots_of, lent};
+ghost use Rattle.checker.specs.Follow.{HasRoom, HandedOut, runs_along};
 
-use crate::checked::{Checked, refuse};
+use crate::checked::{Checked, answered};
 use crate::copy::copy_draws;
 use crate::opening::{Opening, opening_of};
 use crate::run::run_list;
-use rules::{Answer, MOST_DRAWS, Unrolled};
+use display::Display;
+use rules::{Answer, MOST_DRAWS, Refusal};
 
 // 7. There are fewer places than draws in the buffer for ticks or in the one for slots.
 fn short_room(draws: u16, ticks: usize, slots: usize) -> bool
@@ -25,21 +25,51 @@ fn short_room(draws: u16, ticks: usize, slots: usize) -> bool
 fn hand_out(
     job: &[u8],
     list: &[u8],
-    shape: Unrolled,
-    count: u16,
+    opening: Opening,
     ticks: &mut [u32],
     slots: &mut [u8],
-) -> Checked
-    requires { HasRoom (call job.now shape.rounds) list.now shape count ticks.old slots.old }
-    ensures { HandedOut (follows (job_of (call job.now shape.rounds)) (events_in count (drop head_size list.now))) result ticks.old ticks.new slots.old slots.new }
+) -> Result<Display, Refusal>
+    requires { HasRoom (call job.now opening.shape.rounds) list.now opening.shape opening.count ticks.old slots.old }
+    ensures { HandedOut (runs_along (call job.now opening.shape.rounds) opening.count list.now) result ticks.old ticks.new slots.old slots.new }
 {
     let mut at = [0u32; MOST_DRAWS as usize];
     let mut from = [0u8; MOST_DRAWS as usize];
+    let shape = opening.shape;
     let mut held = sheet::starting_slots(job, shape.slots);
     let k = shape.slots as usize;
-    let ran = run_list(job, list, shape, count, &mut held[..k], &mut at, &mut from);
-    copy_draws(ticks, slots, &at, &from, ran.draws);
-    ran
+    let d = run_list(
+        job,
+        list,
+        shape,
+        opening.count,
+        &mut held[..k],
+        &mut at,
+        &mut from,
+    )?;
+    copy_draws(ticks, slots, &at, &from, d.next);
+    Ok(d)
+}
+
+// Every refusal of a check in its order, then the run.
+fn run_check(
+    job: &[u8],
+    list: &[u8],
+    rounds: u32,
+    ticks: &mut [u32],
+    slots: &mut [u8],
+) -> Result<Display, Refusal>
+    ensures { HandedOut (checked (call job.now rounds) list.now (length ticks.old) (length slots.old)) result ticks.old ticks.new slots.old slots.new }
+{
+    let opening = opening_of(job, list, rounds)?;
+    let shape = opening.shape;
+    if short_room(shape.draws, ticks.len(), slots.len()) {
+        return Err(Refusal::ShortRoom);
+    }
+    let first = sheet::first_bad_tick(list, opening.count);
+    if first < opening.count as u32 {
+        return Err(Refusal::EventTick { event: first });
+    }
+    hand_out(job, list, opening, ticks, slots)
 }
 
 // The check with the number of draws that it reports, for a host that has to know how much of the buffers was written.
@@ -55,19 +85,8 @@ pub fn check_draws(
     ensures ticks { ticks.new ≡ lent (ticks_of (checked (call job.now rounds) list.now (length ticks.old) (length slots.old))) ticks.old }
     ensures slots { slots.new ≡ lent (slots_of (checked (call job.now rounds) list.now (length ticks.old) (length slots.old))) slots.old }
 {
-    match opening_of(job, list, rounds) {
-        Opening::Shut { number } => refuse(number, 0),
-        Opening::Open { shape, count } => {
-            if short_room(shape.draws, ticks.len(), slots.len()) {
-                return refuse(7, 0);
-            }
-            let first = sheet::first_bad_tick(list, count);
-            if first < count as u32 {
-                return refuse(9, first);
-            }
-            hand_out(job, list, shape, count, ticks, slots)
-        }
-    }
+    let ended = run_check(job, list, rounds, ticks, slots);
+    answered(ended)
 }
 
 // The answer to a list for this many rounds of a job. Where it is accepted, the two buffers hold the tick and the slot of each draw, and what comes after
@@ -77,6 +96,6 @@ pub fn check(job: &[u8], list: &[u8], rounds: u32, ticks: &mut [u32], slots: &mu
     ensures ticks { ticks.new ≡ lent (ticks_of (checked (call job.now rounds) list.now (length ticks.old) (length slots.old))) ticks.old }
     ensures slots { slots.new ≡ lent (slots_of (checked (call job.now rounds) list.now (length ticks.old) (length slots.old))) slots.old }
 {
-    let checked = check_draws(job, list, rounds, ticks, slots);
-    checked.answer
+    let told = check_draws(job, list, rounds, ticks, slots);
+    told.answer
 }

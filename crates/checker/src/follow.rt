@@ -7,8 +7,8 @@ ghost use Rattle.display.specs.Tick.{Ticks, Recorded};
 ghost use Rattle.sheet.specs.Size.{Sized};
 ghost use Rattle.checker.specs.Follow.{MayTick};
 
-use display::{Display, Ticked, begin, draw_or_wait, land, load_refusal, refused_load};
-use rules::{Load, Unrolled};
+use display::{Display, Ticked, begin, draw_or_wait, land, load_refusal};
+use rules::{Load, Refusal, Unrolled};
 
 // What the list asks for in this tick, when this many of its loads have begun.
 pub fn asked_of(list: &[u8], count: u16, loads: u32, tick: u32) -> Option<Load>
@@ -39,17 +39,14 @@ pub fn follow_tick(
     count: u16,
     held: &mut [u16],
     d: Display,
-) -> Ticked
+) -> Result<Ticked, Refusal>
     requires { MayTick (call job.now shape.rounds) list.now shape count held.old d }
     ensures ticks { Ticks (job_of (call job.now shape.rounds)) (follow (events_in count (drop head_size list.now))) held.old held.new d result }
     ensures recorded { Recorded (job_of (call job.now shape.rounds)) (follow (events_in count (drop head_size list.now))) held.old d result }
 {
     let landed = land(held, d);
     let asked = asked_of(list, count, landed.loads, landed.tick);
-    let number = load_refusal(held, landed, asked);
-    if number != 0 {
-        return refused_load(landed, number);
-    }
+    load_refusal(held, landed, asked)?;
     let begun = begin(held, landed, shape.load_time, asked);
     let symbol = sheet::draw_symbol(job, shape, landed.next);
     draw_or_wait(held, begun, asked, symbol, count as u32 <= landed.loads)

@@ -2,28 +2,23 @@
 ghost use Rattle.rules.specs.Job.{call};
 ghost use Rattle.checker.specs.Opening.{Opened};
 
-use rules::Unrolled;
+use rules::{Refusal, Unrolled};
 
-// What they come to: the size of what is asked about and the number of the list's events, or the number of the first refusal.
-#[derive(Drop)]
-pub enum Opening {
-    Open { shape: Unrolled, count: u16 },
-    Shut { number: u32 },
+// What they find: the size of what is asked about, and the number of the list's events.
+#[derive(Clone, Copy)]
+pub struct Opening {
+    pub shape: Unrolled,
+    pub count: u16,
 }
 
-// The readings of a check of this many rounds.
-pub fn opening_of(job: &[u8], list: &[u8], rounds: u32) -> Opening
+// The readings of a check of this many rounds, or the first refusal that they meet.
+pub fn opening_of(job: &[u8], list: &[u8], rounds: u32) -> Result<Opening, Refusal>
     ensures { Opened (call job.now rounds) list.now result }
 {
-    let reading = sheet::read_call(job, rounds);
-    let Ok(shape) = reading else {
-        return Opening::Shut {
-            number: sheet::call_number(reading),
-        };
-    };
+    let shape = sheet::read_call(job, rounds)?;
     let head = sheet::read_list(list);
     let Some(count) = head else {
-        return Opening::Shut { number: 8 };
+        return Err(Refusal::ListForm);
     };
-    Opening::Open { shape, count }
+    Ok(Opening { shape, count })
 }

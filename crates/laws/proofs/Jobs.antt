@@ -14,7 +14,7 @@ use Rattle.rules.specs.declared.Unrolled.{Unrolled}
 use Rattle.rules.specs.Basics.{stands, number16}
 use Rattle.rules.specs.Job.{Job, free, most_slots, most_load_time, most_draws, Call, call, draws_at, shape_of, drawn_symbols, draws_of}
 use Rattle.rules.specs.Job.{unrolled, job_of}
-use Rattle.rules.specs.Refusing.{refusal_number, call_refusal}
+use Rattle.rules.specs.Refusing.{refusal_number, refusal_detail, call_refusal}
 use Rattle.rules.specs.Order.{Test, Verdict, clear, met, first_of}
 use Rattle.rules.specs.Refusals.{doubled, job_tests, bad_rounds, call_tests, read_as, read_call, call_number}
 use Rattle.laws.specs.Limits.{Limits}
@@ -58,14 +58,23 @@ pub clear_taken : (asked : Call) → first_of (call_tests asked) ≡ clear → r
 clear_taken asked e = ap (λ (v : Verdict). read_as v (unrolled asked)) e
 
 -- Each test of a call has the number of its refusal, and no detail.
-pub call_met : (asked : Call) (n d : ℕ) → first_of (call_tests asked) ≡ met n d → (refusal_number (call_refusal n) ≡ n) × (d ≡ 0)
+pub call_met : (asked : Call) (n d : ℕ) → first_of (call_tests asked) ≡ met n d
+    → (refusal_number (call_refusal n) ≡ n) × (refusal_detail (call_refusal n) ≡ d) × (d ≡ 0)
 call_met asked n d is =
-    met_by (λ m c. (refusal_number (call_refusal m) ≡ m) × (c ≡ 0)) (call_tests asked) n d (unfold Each job_tests call_tests in search) is
+    met_by (λ m c. (refusal_number (call_refusal m) ≡ m) × (refusal_detail (call_refusal m) ≡ c) × (c ≡ 0)) (call_tests asked) n d
+    (unfold Each job_tests call_tests in search) is
 
-refused_met : (asked : Call) (r : Refusal) → read_call asked ≡ Err r → first_of (call_tests asked) ≡ met (refusal_number r) 0
+refused_met : (asked : Call) (r : Refusal) → read_call asked ≡ Err r → first_of (call_tests asked) ≡ met (refusal_number r) (refusal_detail r)
 refused_met asked r e =
     let (n, d, is, same) = read_refused (first_of (call_tests asked)) (unrolled asked) r e in
-    let (number, none) = call_met asked n d is in
+    let (number, detail, none) = call_met asked n d is in
+    is ∙ ap (λ (m : ℕ). met m d) (sym number) ∙ ap (met (refusal_number (call_refusal n))) (sym detail)
+    ∙ ap (λ (r : Refusal). met (refusal_number r) (refusal_detail r)) same
+
+refused_without_detail : (asked : Call) (r : Refusal) → read_call asked ≡ Err r → first_of (call_tests asked) ≡ met (refusal_number r) 0
+refused_without_detail asked r e =
+    let (n, d, is, same) = read_refused (first_of (call_tests asked)) (unrolled asked) r e in
+    let (number, detail, none) = call_met asked n d is in
     is ∙ ap (met n) none ∙ ap (λ (m : ℕ). met m 0) (sym number ∙ ap refusal_number same)
 
 -- As code meets the tests: what it answers once they are walked is what the definition reads.
@@ -88,14 +97,14 @@ pub past_call : (asked : Call) (reading : Result Unrolled Refusal) (size : Unrol
 past_call asked reading size is taken g = past (walked (call_tests asked) clear (taken_clear asked size (sym is ∙ taken))) g
 
 pub refused_call : (asked : Call) (reading : Result Unrolled Refusal) (r : Refusal) (later : List Test) → reading ≡ read_call asked → reading ≡ Err r
-    → Gives (call_tests asked ++ later) (met (refusal_number r) 0)
+    → Gives (call_tests asked ++ later) (met (refusal_number r) (refusal_detail r))
 refused_call asked reading r later is stops =
-    inside later (walked (call_tests asked) (met (refusal_number r) 0) (refused_met asked r (sym is ∙ stops)))
+    inside later (walked (call_tests asked) (met (refusal_number r) (refusal_detail r)) (refused_met asked r (sym is ∙ stops)))
 
 pub at_call : (asked : Call) (reading : Result Unrolled Refusal) (r : Refusal) (m : ℕ) (later : List Test) → reading ≡ read_call asked → reading ≡ Err r
     → m ≡ call_number reading → Gives (call_tests asked ++ later) (met m 0)
 at_call asked reading r m later is stops number =
-    rw (number, stops) (inside later (walked (call_tests asked) (met (refusal_number r) 0) (refused_met asked r (sym is ∙ stops))))
+    rw (number, stops) (inside later (walked (call_tests asked) (met (refusal_number r) 0) (refused_without_detail asked r (sym is ∙ stops))))
 
 -- The rounds that a call was taken with are those that it asks for.
 pub same_call : (asked : Call) (size : Unrolled) → read_call asked ≡ Ok size → asked ≡ call asked.job size.rounds

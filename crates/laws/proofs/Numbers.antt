@@ -7,6 +7,11 @@ use mathlib.Core.List.{List, [], ◌∷◌}
 use lib.ListN.{length, drop, length-drop}
 use lib.Dec.{ltb}
 use borrow.Author.Tests.{ltb-false, le-ltb, eqb-true, not-false}
+use Rattle.rules.specs.declared.refusal.Refusal.{Refusal}
+use Rattle.rules.specs.declared.refusal.Refusal.TheVariants.{JobLength, JobVersion, JobLimits, JobSize, JobSymbols, PlanNumber, ShortRoom, ListForm}
+use Rattle.rules.specs.declared.refusal.Refusal.TheVariants.{EventTick, LoadUnderWay, NoSuchSlot, SymbolHeld, EndlessWait, EventLeft}
+use Rattle.rules.specs.declared.refusal.Refusal.TheVariants.{PastTheLastTick, LineForm, Rounds, NoSuchDraw}
+use Rattle.rules.specs.Refusing.{refusal_number}
 use Rattle.rules.specs.Order.{Verdict, clear, met, test, first_of, number_in}
 use Rattle.rules.specs.Basics.{number32}
 use Rattle.rules.specs.Job.{Call, unrolled}
@@ -48,3 +53,24 @@ event_of_a_list list i good inside =
     last_event : (n m i stated left : ℕ) → left ≡ n - event_at i → stated ≡ 3 + event_size * m → stated ≡ n - 4 → head_size ≤ n → i < m
         → event_size ≤ left
     last_event n m i stated left a b c d e = omega arith
+
+-- No refusal has the number 0.
+pub some_number : (r : Refusal) → refusal_number r ≡ 0 → ⊥
+some_number JobLength e = omega arith
+some_number JobVersion e = omega arith
+some_number JobLimits e = omega arith
+some_number JobSize e = omega arith
+some_number JobSymbols e = omega arith
+some_number PlanNumber e = omega arith
+some_number ShortRoom e = omega arith
+some_number ListForm e = omega arith
+some_number (EventTick n) e = omega arith
+some_number (LoadUnderWay n) e = omega arith
+some_number (NoSuchSlot n) e = omega arith
+some_number (SymbolHeld n) e = omega arith
+some_number (EndlessWait n) e = omega arith
+some_number (EventLeft n) e = omega arith
+some_number PastTheLastTick e = omega arith
+some_number (LineForm n) e = omega arith
+some_number Rounds e = omega arith
+some_number NoSuchDraw e = omega arith

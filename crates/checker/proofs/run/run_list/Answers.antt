@@ -5,12 +5,13 @@ use Rattle.rules.specs.LoadList.{events_in, head_size}
 use Rattle.rules.specs.Refusals.{follow, most_ticks}
 use Rattle.display.specs.View.{at_first, onward}
 use Rattle.display.proofs.Going.{going_may}
+use Rattle.checker.specs.Turn.{GoesOn}
 use Rattle.checker.proofs.Ends.{starting_size, walking_first, closed}
 use Rattle.checker.proofs.Walks.{walked_on, noted_length}
 use Rattle.checker.proofs.run.run_list.Goals as goal
 
-pub loop-checked-init : goal.loop-checked-init
-loop-checked-init c =
+pub loop-turn-init : goal.loop-turn-init
+loop-turn-init c =
     let a = c.args in
     let asked = call a.job.now a.shape.rounds in
     record {
@@ -26,7 +27,7 @@ pub take_turn-requires : goal.take_turn-requires
 take_turn-requires c =
     let a = c.args in
     let job = job_of (call a.job.now a.shape.rounds) in
-    let kept = c.loop-checked.invariant in
+    let kept = c.loop-turn.invariant in
     record {
       read = c.requires.read;
       all_slots = kept.same_slots ∙ starting_size c.requires.read.limits _ c.requires.starts;
@@ -34,21 +35,22 @@ take_turn-requires c =
       loads = kept.walking.along.loads;
     }
 
-pub returns-in-Over : goal.returns-in-Over
-returns-in-Over c =
+pub returns : goal.returns
+returns c =
     let a = c.args in
-    (closed (job_of (call a.job.now a.shape.rounds)) (events_in a.count (drop head_size a.list.now)) _ _ _ _ _ c.loop-checked.invariant.walking
-    c.in-Over.checked c.in-Over.ensures).notes
+    (closed (job_of (call a.job.now a.shape.rounds)) (events_in a.count (drop head_size a.list.now)) _ _ _ _ _ c.loop-turn.invariant.walking
+    _ (rw c.in_default.is at c.in_ok-turn.ensures)).notes
 
-pub loop-checked-preserved : goal.loop-checked-preserved
-loop-checked-preserved c =
+pub loop-turn-preserved : goal.loop-turn-preserved
+loop-turn-preserved c =
     let a = c.args in
     let job = job_of (call a.job.now a.shape.rounds) in
     let events = events_in a.count (drop head_size a.list.now) in
-    let l = c.loop-checked in
+    let l = c.loop-turn in
     let kept = l.invariant in
-    let t = c.in-On.ensures in
-    let on = c.in-On.on_record in
+    let turn = c.in-Some.turn in
+    let t : GoesOn job events l.held c.take_turn.new.held l.d turn.on_record turn.later = rw c.in-Some.is at c.in_ok-turn.ensures in
+    let on = turn.on_record in
     let many = c.requires.read.limits.many_draws in
     let few = c.requires.read.limits.few_draws in
     let within = t.within in
@@ -59,6 +61,6 @@ loop-checked-preserved c =
       tick_places = ap length c.note.ensures.ticks ∙ noted_length on.happening (λ q. l.d.tick) l.d.next l.ticks ∙ kept.tick_places;
       slot_places = ap length c.note.ensures.slots ∙ noted_length on.happening (λ q. q) l.d.next l.slots ∙ kept.slot_places;
       history = onward l.d on kept.history;
-      walking = walked_on job events _ _ _ _ _ kept.walking t.within t.early _ _ t.on_record.ticks refl c.in-On.later t.rested c.note.new.ticks
+      walking = walked_on job events _ _ _ _ _ kept.walking t.within t.early _ _ t.on_record.ticks c.in-Some.turn.later t.rested c.note.new.ticks
           c.note.new.slots (omega arith) (omega arith) c.note.ensures.ticks c.note.ensures.slots;
     }

@@ -6,10 +6,10 @@ use Rattle.rules.specs.Refusals.{most_ticks}
 use Rattle.checker.proofs.Walks.{Turn}
 use Rattle.checker.proofs.run.run_list.Given as goal
 
-abbrev pub invariant-loop-checked : goal.invariant-loop-checked
-invariant-loop-checked l =
+abbrev pub invariant-loop-turn : goal.invariant-loop-turn
+invariant-loop-turn l =
     Turn (job_of (call l.job l.shape.rounds)) (events_in l.count (drop head_size l.list)) l.initial.held l.initial.ticks l.initial.slots l.held l.ticks
     l.slots l.d
 
-abbrev pub decreases-loop-checked : goal.decreases-loop-checked
-decreases-loop-checked l = most_ticks (job_of (call l.job l.shape.rounds)) - l.d.tick
+abbrev pub decreases-loop-turn : goal.decreases-loop-turn
+decreases-loop-turn l = most_ticks (job_of (call l.job l.shape.rounds)) - l.d.tick

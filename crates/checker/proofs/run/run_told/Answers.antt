@@ -1,15 +1,17 @@
 -- The loop goes on as `Kept` says, and where a turn ends the run the account is that of the rules.
 use Rattle.std.proofs.Common.{◌∙◌, drop}
+use Rattle.std.proofs.lemmas.Result.{err_from_is_err_and}
 use Rattle.rules.specs.Job.{call, job_of}
 use Rattle.rules.specs.LoadList.{events_in, head_size}
 use Rattle.rules.specs.Refusals.{follow, most_ticks}
 use Rattle.display.proofs.Going.{going_may}
 use Rattle.checker.proofs.Ends.{starting_size}
-use Rattle.checker.proofs.Tells.{kept_first, telling_on, telling_past, kept_on, ran_out}
+use Rattle.checker.specs.Turn.{GoesOn}
+use Rattle.checker.proofs.Tells.{kept_first, telling_on, telling_past, kept_on, ran_refused, ran_out}
 use Rattle.checker.proofs.run.run_told.Goals as goal
 
-pub loop-checked-init : goal.loop-checked-init
-loop-checked-init c =
+pub loop-turn-init : goal.loop-turn-init
+loop-turn-init c =
     let a = c.args in
     kept_first (call a.job.now a.shape.rounds) (events_in a.count (drop head_size a.list.now)) a.asked a.symbol a.held.now c.start-d.result _
     c.requires.starts c.start-d.ensures c.untold-account.ensures
@@ -18,7 +20,7 @@ pub take_turn-requires : goal.take_turn-requires
 take_turn-requires c =
     let a = c.args in
     let job = job_of (call a.job.now a.shape.rounds) in
-    let kept = c.loop-checked.invariant in
+    let kept = c.loop-turn.invariant in
     record {
       read = c.requires.read;
       all_slots = kept.same_slots ∙ starting_size c.requires.read.limits _ c.requires.starts;
@@ -26,27 +28,41 @@ take_turn-requires c =
       loads = kept.walking.along.loads;
     }
 
-pub returns-in-Over : goal.returns-in-Over
-returns-in-Over c =
+pub returns-in_err-turn : goal.returns-in_err-turn
+returns-in_err-turn c =
+    let a = c.args in
+    let p = err_from_is_err_and c.from_residual.result c.from_residual.ensures.1 in
+    rw (p.1, p.2)
+    (ran_refused (job_of (call a.job.now a.shape.rounds)) (events_in a.count (drop head_size a.list.now)) a.asked a.symbol a.held.now _ _ _
+    c.loop-turn.invariant _ c.in_err-turn.ensures)
+
+pub returns-in_default : goal.returns-in_default
+returns-in_default c =
     let a = c.args in
     ran_out (job_of (call a.job.now a.shape.rounds)) (events_in a.count (drop head_size a.list.now)) a.asked a.symbol a.held.now _ _ _
-    c.loop-checked.invariant c.in-Over.checked c.in-Over.ensures
+    c.loop-turn.invariant (rw c.in_default.is at c.in_ok-turn.ensures)
 
-pub loop-checked-preserved-then-d-asked : goal.loop-checked-preserved-then-d-asked
-loop-checked-preserved-then-d-asked c =
+pub loop-turn-preserved-then-d-asked : goal.loop-turn-preserved-then-d-asked
+loop-turn-preserved-then-d-asked c =
     let a = c.args in
     let job = job_of (call a.job.now a.shape.rounds) in
     let events = events_in a.count (drop head_size a.list.now) in
-    let kept = c.loop-checked.invariant in
-    kept_on job events a.asked a.symbol _ _ _ _ kept _ c.in-On.on_record c.in-On.later _ c.in-On.ensures c.take_turn.auto.held
-    (telling_on job events a.asked a.symbol _ _ _ _ kept.telling kept.walking.along _ _ _ c.in-On.ensures c.going_out-out.result _ c.if-d-asked.true
+    let turn = c.in-Some.turn in
+    let t : GoesOn job events c.loop-turn.held c.take_turn.new.held c.loop-turn.d turn.on_record turn.later =
+    rw c.in-Some.is at c.in_ok-turn.ensures in
+    let kept = c.loop-turn.invariant in
+    kept_on job events a.asked a.symbol _ _ _ _ kept _ c.in-Some.turn.on_record c.in-Some.turn.later _ t c.take_turn.auto.held
+    (telling_on job events a.asked a.symbol _ _ _ _ kept.telling kept.walking.along _ _ _ t c.going_out-out.result _ c.if-d-asked.true
     c.going_out-out.ensures c.turn_told-account.ensures)
 
-pub loop-checked-preserved : goal.loop-checked-preserved
-loop-checked-preserved c =
+pub loop-turn-preserved : goal.loop-turn-preserved
+loop-turn-preserved c =
     let a = c.args in
     let job = job_of (call a.job.now a.shape.rounds) in
     let events = events_in a.count (drop head_size a.list.now) in
-    let kept = c.loop-checked.invariant in
-    kept_on job events a.asked a.symbol _ _ _ _ kept _ c.in-On.on_record c.in-On.later _ c.in-On.ensures c.take_turn.auto.held
-    (telling_past job events a.asked a.symbol _ _ _ _ kept.telling kept.walking.along _ _ _ c.in-On.ensures c.if-d-asked.false)
+    let turn = c.in-Some.turn in
+    let t : GoesOn job events c.loop-turn.held c.take_turn.new.held c.loop-turn.d turn.on_record turn.later =
+    rw c.in-Some.is at c.in_ok-turn.ensures in
+    let kept = c.loop-turn.invariant in
+    kept_on job events a.asked a.symbol _ _ _ _ kept _ c.in-Some.turn.on_record c.in-Some.turn.later _ t c.take_turn.auto.held
+    (telling_past job events a.asked a.symbol _ _ _ _ kept.telling kept.walking.along _ _ _ t c.if-d-asked.false)
