@@ -5,25 +5,24 @@ use mathlib.Core.Path.{◌≡◌, refl, sym, ap, subst, ◌∙◌}
 use mathlib.Core.Bool.{Bool, false, cond}
 use mathlib.Core.List.{List, [], ◌∷◌, map}
 use lib.ListN.{length, take, length-take}
-use lib.Dec.{ltb, eqb}
+use lib.Dec.{ltb}
 use borrow.Author.Tests.{ltb-false, lt-ltb}
-use Rattle.std.specs.Prelude.{Result, Ok, Err}
+use Rattle.std.specs.Prelude.{Result, Ok}
 use Rattle.rules.specs.declared.refusal.Refusal.{Refusal}
 use Rattle.rules.specs.declared.Unrolled.{Unrolled}
-use Rattle.rules.specs.Order.{Test, test, Verdict, clear, met, first_of}
-use Rattle.rules.specs.Job.{Call, call, unrolled, draws_of, job_of, most_draws}
+use Rattle.rules.specs.Order.{Test, test, Verdict, clear, met}
+use Rattle.rules.specs.Job.{Call, call, draws_of, job_of, most_draws}
 use Rattle.rules.specs.LoadList.{head_size, event_size, list_bytes}
 use Rattle.rules.specs.Display.{State, Run, Loaded, going, refused, finished}
 use Rattle.rules.specs.declared.Plan.{Plan}
 use Rattle.rules.specs.declared.Plan.TheVariants.{Aggressive, Conservative, Opt, Lru}
 use Rattle.rules.specs.Plans.{run_plan, begun_in, rule_of, last_plan}
 use Rattle.choice.specs.Asks.{plan_number}
-use Rattle.rules.specs.Refusing.{refusal_number, refusal_detail, call_refusal}
-use Rattle.rules.specs.Refusals.{call_tests, read_as, read_call, short_plan, in_time, plan_tests, planned, event_of, written_by, lent}
-use Rattle.laws.proofs.Cases.{by_test}
+use Rattle.rules.specs.Refusing.{refusal_number, refusal_detail}
+use Rattle.rules.specs.Refusals.{read_call, short_plan, in_time, plan_tests, planned, event_of, written_by, lent}
 use Rattle.laws.proofs.Verdicts.{Gives, gives, stop, step}
 use Rattle.laws.specs.Limits.{Limits}
-use Rattle.laws.proofs.Jobs.{limits, proper, same_call, refused_call}
+use Rattle.laws.proofs.Jobs.{limits, proper, same_call}
 use Rattle.plan_laws.proofs.Keeping.{Done}
 use Rattle.plan_laws.proofs.Plans.{Any, plan_done, planned_met, planned_past}
 use Rattle.display.specs.View.{History, view}
@@ -52,35 +51,16 @@ roomy job rounds reading shape room r is taken e fails =
       enough = ltb-false _ _ (sym e ∙ fails);
     }
 
--- No refusal of a call has a detail.
-call_detail : (n : ℕ) → refusal_detail (call_refusal n) ≡ 0
-call_detail n =
-    by_test (eqb n 1) (λ t. rw t)
-    (λ t. rw t (by_test (eqb n 2) (λ u. rw u)
-    (λ u. rw u (by_test (eqb n 3) (λ v. rw v)
-    (λ v. rw v (by_test (eqb n 4) (λ w. rw w)
-    (λ w. rw w (by_test (eqb n 5) (λ x. rw x) (λ x. rw x)))))))))
-
-read_detail : (v : Verdict) (size : Unrolled) (e : Refusal) → read_as v size ≡ Err e → refusal_detail e ≡ 0
-read_detail clear size e is = let z : ◌≡◌ {A = ℕ} 0 1 = cc in absurd (omega arith)
-read_detail (met n d) size e is = let same : call_refusal n ≡ e = cc in rw (← same) (call_detail n)
-
 module _ (asked : Call) (plan : ℕ) (room : List ℕ) where
   abbrev comes : Run
   comes = planned asked plan (length room)
 
   -- A plan that is refused leaves the room as it was.
-  pub refuses : (e : Refusal) → refusal_detail e ≡ 0 → Gives (plan_tests asked plan (length room)) (met (refusal_number e) 0)
+  pub refuses : (e : Refusal) → Gives (plan_tests asked plan (length room)) (met (refusal_number e) (refusal_detail e))
       → (comes ≡ refused (refusal_number e) (refusal_detail e)) × (room ≡ lent (written_by comes) room)
-  refuses e none g =
-      let is : comes ≡ refused (refusal_number e) 0 = planned_met asked plan (length room) (refusal_number e) 0 (gives _ _ g) in
-      (rw none is, rw is)
-
-  -- So does one whose call is refused.
-  pub call_refuses : (reading : Result Unrolled Refusal) (e : Refusal) → reading ≡ read_call asked → reading ≡ Err e
-      → (comes ≡ refused (refusal_number e) (refusal_detail e)) × (room ≡ lent (written_by comes) room)
-  call_refuses reading e is stops =
-      refuses e (read_detail (first_of (call_tests asked)) (unrolled asked) e (sym is ∙ stops)) (refused_call asked reading e _ is stops)
+  refuses e g =
+      let is : comes ≡ refused (refusal_number e) (refusal_detail e) = planned_met asked plan (length room) _ _ (gives _ _ g) in
+      (is, rw is)
 
   -- Past all tests it comes to the run of the plan.
   pub past_tests : (reading : Result Unrolled Refusal) (shape : Unrolled) → reading ≡ read_call asked → reading ≡ Ok shape
