@@ -16,7 +16,7 @@ use Rattle.rules.specs.Job.{Job, free, most_slots, most_load_time, most_draws, C
 use Rattle.rules.specs.Job.{unrolled, job_of}
 use Rattle.rules.specs.Refusing.{refusal_number, refusal_detail, call_refusal}
 use Rattle.rules.specs.Order.{Test, Verdict, clear, met, first_of}
-use Rattle.rules.specs.Refusals.{doubled, job_tests, bad_rounds, call_tests, read_as, read_call, call_number}
+use Rattle.rules.specs.Refusals.{doubled, job_tests, bad_rounds, call_tests, read_as, read_call}
 use Rattle.laws.specs.Limits.{Limits}
 use Rattle.laws.proofs.Cases.{neither}
 use Rattle.laws.proofs.Verdicts.{test_of, clear_of, Each, met_by, Gives, gives, walked, past, inside}
@@ -71,12 +71,6 @@ refused_met asked r e =
     is ∙ ap (λ (m : ℕ). met m d) (sym number) ∙ ap (met (refusal_number (call_refusal n))) (sym detail)
     ∙ ap (λ (r : Refusal). met (refusal_number r) (refusal_detail r)) same
 
-refused_without_detail : (asked : Call) (r : Refusal) → read_call asked ≡ Err r → first_of (call_tests asked) ≡ met (refusal_number r) 0
-refused_without_detail asked r e =
-    let (n, d, is, same) = read_refused (first_of (call_tests asked)) (unrolled asked) r e in
-    let (number, detail, none) = call_met asked n d is in
-    is ∙ ap (met n) none ∙ ap (λ (m : ℕ). met m 0) (sym number ∙ ap refusal_number same)
-
 -- As code meets the tests: what it answers once they are walked is what the definition reads.
 pub call_refused : (asked : Call) (n : ℕ) → Gives (call_tests asked) (met n 0) → Err (call_refusal n) ≡ read_call asked
 call_refused asked n g = ap (λ (v : Verdict). read_as v (unrolled asked)) (sym (gives _ _ g))
@@ -100,11 +94,6 @@ pub refused_call : (asked : Call) (reading : Result Unrolled Refusal) (r : Refus
     → Gives (call_tests asked ++ later) (met (refusal_number r) (refusal_detail r))
 refused_call asked reading r later is stops =
     inside later (walked (call_tests asked) (met (refusal_number r) (refusal_detail r)) (refused_met asked r (sym is ∙ stops)))
-
-pub at_call : (asked : Call) (reading : Result Unrolled Refusal) (r : Refusal) (m : ℕ) (later : List Test) → reading ≡ read_call asked → reading ≡ Err r
-    → m ≡ call_number reading → Gives (call_tests asked ++ later) (met m 0)
-at_call asked reading r m later is stops number =
-    rw (number, stops) (inside later (walked (call_tests asked) (met (refusal_number r) 0) (refused_without_detail asked r (sym is ∙ stops))))
 
 -- The rounds that a call was taken with are those that it asks for.
 pub same_call : (asked : Call) (size : Unrolled) → read_call asked ≡ Ok size → asked ≡ call asked.job size.rounds

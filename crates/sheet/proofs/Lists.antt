@@ -6,8 +6,10 @@ use mathlib.Core.Bool.{true, false}
 use mathlib.Core.List.{List, ◌∷◌}
 use lib.ListN.{length, drop}
 use lib.Dec.{ltb}
-use borrow.Author.Tests.{lt-ltb, le-ltb, ltb-false, eqb-true, not-false}
-use Rattle.std.specs.Prelude.{Option, Some, None}
+use borrow.Author.Tests.{lt-ltb, le-ltb, ltb-true, ltb-false, eqb-true, not-false}
+use Rattle.std.specs.Prelude.{Option, Some, None, Ok, Err}
+use Rattle.rules.specs.declared.refusal.Refusal.{Refusal}
+use Rattle.rules.specs.declared.refusal.Refusal.TheVariants.{EventTick}
 use Rattle.rules.specs.Basics.{number32}
 use Rattle.rules.specs.Order.{Test, test, Verdict, met}
 use Rattle.rules.specs.LoadList.{head_size, count_of, events_of, events_in}
@@ -16,6 +18,7 @@ use Rattle.laws.proofs.Cases.{by_test, neither}
 use Rattle.laws.proofs.Verdicts.{Gives, stop, step}
 use Rattle.laws.proofs.Events.{length-events_in}
 use Rattle.sheet.specs.Size.{Sized}
+use Rattle.sheet.specs.Ticks.{in_order}
 
 -- ---- The list
 
@@ -84,3 +87,21 @@ module _ (list : List ℕ) (head : Option ℕ) (count first : ℕ) where
       let same : first ≡ first_bad_tick 0 (events_of list) = found ∙ ap (first_bad_tick 0) (sym (same_events list head count is read)) in
       let all : length (events_of list) ≡ count = as_many list head count is read in
       step false (sym (le-ltb (first_bad_tick 0 (events_of list)) (length (events_of list)) (omega arith))) refl g
+
+-- ---- The order of the events as an answer
+
+module _ (count : ℕ) (list : List ℕ) where
+  abbrev first : ℕ
+  first = first_bad_tick 0 (events_in count (drop head_size list))
+
+  pub ticks_hold : (done : Unit {0}) → Ok done ≡ in_order count list → count ≤ first
+  ticks_hold done e =
+      by_test (ltb first count)
+      (λ out. let z : ◌≡◌ {A = ℕ} 0 1 = let g : Ok done ≡ Err (EventTick first) = rw out at e in cc in absurd (omega arith))
+      (λ right. ltb-false first count right)
+
+  pub ticks_broken : (why : Refusal) → Err why ≡ in_order count list → (first < count) × (why ≡ EventTick first)
+  ticks_broken why e =
+      by_test (ltb first count)
+      (λ out. let g : Err why ≡ Err (EventTick first) = rw out at e in (ltb-true first count out, cc))
+      (λ right. let z : ◌≡◌ {A = ℕ} 0 1 = let g : Err why ≡ Ok tt = rw right at e in cc in absurd (omega arith))

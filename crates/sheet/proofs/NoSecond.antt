@@ -1,8 +1,13 @@
--- No public function of this crate has a second answer, and none but `first_bad_tick` asks anything of its caller.
+-- No public function of this crate has a second answer, and none but `first_bad_tick` and a list's `event` asks anything of its caller.
+-- What `LoadList::read` answers is told by its bytes and its count alone, and these its contract fixes.
 use mathlib.Core.Path.{refl}
 use Rattle.laws.specs.NoSecond.{NoSecond, Promise}
 use Rattle.laws.proofs.Same.{same}
 use Rattle.sheet.specs.contracts
+use Rattle.std.proofs.Common.{ℕ, List, ◌≡◌, Some}
+use Rattle.rules.specs.LoadList.{too_short, put_number}
+use Rattle.sheet.specs.Put.{put_result, number_of_put}
+use Rattle.laws.proofs.Cases.{by_test}
 use Rattle.sheet.proofs.job.starting_symbol as starting_symbol
 use Rattle.sheet.proofs.job.starting_slots as starting_slots
 use Rattle.sheet.proofs.job.read_call as read_call
@@ -15,6 +20,8 @@ use Rattle.sheet.proofs.list.put_head as put_head
 use Rattle.sheet.proofs.list.put_event as put_event
 use Rattle.sheet.proofs.number.put_number32 as put_number32
 use Rattle.sheet.proofs.ticks.first_bad_tick as first_bad_tick
+use Rattle.sheet.proofs.load_list.LoadList.check_ticks as check_ticks
+use Rattle.sheet.proofs.load_list.LoadList.event as list_event
 use Rattle.sheet.proofs.walk.event_of as event_of
 
 pub starting_symbol_promise : Promise contracts.starting_symbol.ended starting_symbol.Reads.Asked starting_symbol.Reads.Learnt
@@ -48,6 +55,19 @@ event_of_promise = record { any = λ κs given. tt; one = λ κs given answer an
 pub first_bad_tick_one : NoSecond contracts.first_bad_tick.ended first_bad_tick.Reads.Asked first_bad_tick.Reads.Learnt
 first_bad_tick_one κs given answer answer' left left' asked p q = (same p q, refl)
 
+pub check_ticks_promise : Promise contracts.load_list.LoadList.check_ticks.ended check_ticks.Reads.Asked check_ticks.Reads.Learnt
+check_ticks_promise = record { any = λ κs given. tt; one = λ κs given answer answer' left left' asked p q. (same p q, refl) }
+
+-- It asks for a number of an event.
+pub list_event_one : NoSecond contracts.load_list.LoadList.event.ended list_event.Reads.Asked list_event.Reads.Learnt
+list_event_one κs given answer answer' left left' asked p q =
+    let both : Some answer ≡ Some answer' = same p.0 q.0 in
+    (cc, refl)
+
+-- Document 01's number of what a writer answers.
+pub put_number_lem : (at size : ℕ) (room : List ℕ) → number_of_put (put_result at size room) ≡ put_number at size room
+put_number_lem at size room = by_test (too_short at size room) (λ short. rw short) (λ enough. rw enough)
+
 -- The writers leave one content of the room.
 pub put_head_promise : Promise contracts.put_head.ended put_head.Reads.Asked put_head.Reads.Learnt
 put_head_promise =
@@ -61,7 +81,7 @@ put_event_promise =
     record {
       any = λ κs given. tt;
       one = λ κs given answer answer' left left' asked p q.
-          (same p.0 q.0, λ i. (same p.1 q.1 i, (tt, (tt, (tt, (tt, tt))))));
+          (same p.0 q.0, λ i. (same p.1 q.1 i, (tt, (tt, tt))));
     }
 
 pub put_number32_promise : Promise contracts.put_number32.ended put_number32.Reads.Asked put_number32.Reads.Learnt

@@ -42,10 +42,6 @@ length-row slot job h =
     (length-append (symbols slot (drop 10 job)) (replicate (64 - slot) free)
     ∙ rw (length_symbols slot (drop 10 job), length-replicate (64 - slot) free) (omega arith))
 
--- All 64 slots are filled where a job has as many or more.
-pub row_full : (slots : ℕ) (job : List ℕ) → 64 ≤ slots → row64 64 job ≡ row64 slots job
-row_full slots job h = let few : min slots 64 ≡ 64 = omega arith in rw few
-
 -- The first k of the 64 slots are the starting symbols.
 pub take_row : (k : ℕ) (job : List ℕ) → k ≤ 64 → take k (row64 k job) ≡ symbols k (drop starting_at job)
 take_row k job h =

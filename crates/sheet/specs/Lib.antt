@@ -1,2 +1,4 @@
+pub mod Put
 pub mod Row
 pub mod Size
+pub mod Ticks

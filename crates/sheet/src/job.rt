@@ -24,10 +24,7 @@ fn shape_of(job: &[u8]) -> Shape
 fn bad_length(job: &[u8]) -> bool
     ensures { result ≡ bad_job_length job.now }
 {
-    if job.len() < 10 {
-        return true;
-    }
-    number32_at(job, 0) as usize != job.len() - 4
+    job.len() < 10 || number32_at(job, 0) as usize != job.len() - 4
 }
 
 // 2. A version other than 1.
@@ -41,20 +38,15 @@ fn bad_version(job: &[u8]) -> bool
 fn bad_limits(job: &[u8]) -> bool
     ensures { result ≡ bad_limits (shape_of job.now) }
 {
-    let shape = shape_of(job);
-    if shape.slots < 1 {
-        return true;
-    }
-    if MOST_SLOTS < shape.slots {
-        return true;
-    }
-    if shape.load_time < 1 {
-        return true;
-    }
-    if MOST_LOAD_TIME < shape.load_time {
-        return true;
-    }
-    MOST_DRAWS < shape.draws
+    let Shape {
+        slots,
+        load_time,
+        draws,
+    } = shape_of(job);
+    !matches!(
+        (slots, load_time, draws),
+        (1..=MOST_SLOTS, 1..=MOST_LOAD_TIME, 0..=MOST_DRAWS)
+    )
 }
 
 // 4. A length other than 6 + 2k + 2n.
@@ -70,21 +62,15 @@ fn bad_symbols(job: &[u8]) -> bool
     ensures { result ≡ bad_symbols (starting_symbols job.now) (drawn_symbols job.now) }
 {
     let shape = shape_of(job);
-    if doubled_in(job, 10, shape.slots as u16) {
-        return true;
-    }
-    stands_in(job, 10 + 2 * shape.slots as u32, shape.draws, FREE)
+    doubled_in(job, 10, shape.slots as u16)
+        || stands_in(job, 10 + 2 * shape.slots as u32, shape.draws, FREE)
 }
 
 // 17. No round, or more draws in all rounds than a job may have.
 fn bad_rounds(job: &[u8], rounds: u32) -> bool
     ensures { result ≡ bad_rounds (call job.now rounds) }
 {
-    let shape = shape_of(job);
-    if rounds < 1 {
-        return true;
-    }
-    (MOST_DRAWS as u64) < all_draws(rounds, shape.draws)
+    rounds < 1 || (MOST_DRAWS as u64) < all_draws(rounds, shape_of(job).draws)
 }
 
 // The size of what a call asks about, or the first refusal of 1 to 5 and 17 that it meets.
@@ -124,13 +110,8 @@ pub fn starting_slots(job: &[u8], slots: u8) -> [u16; MOST_SLOTS as usize]
     ensures { result ≡ row64 slots job.now }
 {
     let mut row = [FREE; MOST_SLOTS as usize];
-    let mut slot: u8 = 0;
-    while slot < MOST_SLOTS {
-        if slots <= slot {
-            return row;
-        }
+    for slot in 0..slots.min(MOST_SLOTS) {
         row[slot as usize] = starting_symbol(job, slot);
-        slot += 1;
     }
     row
 }

@@ -4,6 +4,7 @@
 
 mod job;
 mod list;
+mod load_list;
 mod number;
 mod rounds;
 mod row;
@@ -12,6 +13,7 @@ mod walk;
 
 pub use job::{call_number, read_call, starting_slots, starting_symbol};
 pub use list::{list_size, put_event, put_head, read_event, read_list};
+pub use load_list::LoadList;
 pub use number::put_number32;
 pub use rounds::draw_symbol;
 pub use ticks::first_bad_tick;

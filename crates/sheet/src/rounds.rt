@@ -31,13 +31,11 @@ pub fn in_rounds(shape: Shape, rounds: u32) -> Unrolled
 fn place_in_round(draw: u16, round: u16) -> u16
     ensures { result ≡ draw % round }
 {
-    if draw < round {
-        return draw;
+    if draw < round || round == 0 {
+        draw
+    } else {
+        draw % round
     }
-    if round == 0 {
-        return draw;
-    }
-    draw % round
 }
 
 // The symbol of a draw, by its number through the rounds.

@@ -10,31 +10,17 @@ use rules::FREE;
 pub fn stands_in(s: &[u8], from: u32, count: u16, symbol: u16) -> bool
     ensures { result ≡ stands symbol (symbols count (drop from s.now)) }
 {
-    let mut at = from as usize;
-    let mut left = count;
-    while 0 < left {
-        if number16_at(s, at) == symbol {
-            return true;
-        }
-        at += 2;
-        left -= 1;
-    }
-    false
+    (0..count as usize).any(|place| number16_at(s, from as usize + 2 * place) == symbol)
 }
 
 pub fn doubled_in(s: &[u8], from: u16, count: u16) -> bool
     ensures { result ≡ doubled (symbols count (drop from s.now)) }
 {
-    let mut at = from as u32;
-    let mut left = count;
-    while 0 < left {
+    for place in 0..count {
+        let at = from as u32 + 2 * place as u32;
         let symbol = number16_at(s, at as usize);
-        at += 2;
-        left -= 1;
-        if symbol != FREE {
-            if stands_in(s, at, left, symbol) {
-                return true;
-            }
+        if symbol != FREE && stands_in(s, at + 2, count - place - 1, symbol) {
+            return true;
         }
     }
     false

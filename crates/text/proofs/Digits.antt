@@ -1,5 +1,5 @@
 -- Going along the digits of a text: how many there are, and the number that they name, as the code keeps it.
-use Prim.Native.Nat.{ℕ, suc, ◌+◌, ◌*◌, ◌-◌, ◌<◌, ◌≤◌}
+use Prim.Native.Nat.{ℕ, suc, ◌+◌, ◌*◌, ◌-◌, max, ◌<◌, ◌≤◌}
 use native.Mathlib.Omega.{arith}
 use native.Mathlib.Numerals.{add-one}
 use mathlib.Core.Path.{◌≡◌, refl, sym, ap, ◌∙◌}
@@ -9,6 +9,8 @@ use lib.ListN.{length, get_or, drop, get_or-eq_default}
 use lib.Seq.{drop-cons, get_or-drop}
 use lib.Dec.{leb}
 use borrow.Author.Tests.{leb-true}
+use mathlib.Core.Logic.{⊎_elim}
+use Rattle.std.proofs.lemmas.Bool.{cases_lt}
 use Rattle.rules.specs.LoadList.{last_tick}
 use Rattle.rules.specs.Text.{is_digit, digit_count, number_from}
 use Rattle.laws.proofs.Cases.{by_test}
@@ -100,8 +102,18 @@ module _ (sum : ℕ) (text : List ℕ) (from : ℕ) where
         }
 
     -- Past the end of the text there is no digit.
-    pub at_the_end : length text ≤ end → DigitsFound sum (drop from text) from (record { end = end; number = number })
-    at_the_end over = at_another (rw (get_or-eq_default text 0 over) refl)
+    none_past : (i : ℕ) → length text ≤ i → is_digit (get_or text i 0) ≡ false
+    none_past i over = rw (get_or-eq_default text 0 {n = i} over) refl
+
+    pub at_the_end : length text ≤ end → (from ≤ length text → end ≤ length text)
+        → DigitsFound sum (drop from text) from (record { end = max from (length text); number = number })
+    at_the_end over within =
+        let passed_all : from + digit_count (drop from text) ≡ end =
+        passed.counted ∙ omega (arith, counts_none text end (none_past end over)) in
+        let here : max from (length text) ≡ end =
+        ⊎_elim (λ past. omega (arith, counts_none text from (none_past from (omega arith)))) (λ inside. omega arith)
+        (cases_lt (length text) from) in
+        rw here (at_another (none_past end over))
 
     pub one_passed : end < length text → is_digit (get_or text end 0) ≡ true
         → DigitsPassed sum text from (end + 1) (kept (10 * number + (get_or text end 0 - 48)))

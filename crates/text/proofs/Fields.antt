@@ -5,6 +5,8 @@ use mathlib.Core.Path.{◌≡◌, refl, sym, ap, ◌∙◌}
 use mathlib.Core.List.{List, [], ◌∷◌, ◌++◌, append_assoc}
 use lib.ListN.{length, take, drop, set, length-append, length-set}
 use lib.Seq.{set_split, take-set-le, drop_at, append_snoc, length-take-le}
+use mathlib.Core.Logic.{⊎_elim}
+use Rattle.std.proofs.lemmas.Bool.{cases_lt}
 use Rattle.rules.specs.LoadList.{event}
 use Rattle.rules.specs.Text.{decimal, field, line_of}
 use Rattle.laws.proofs.Decimals.{decimal_small, decimal_step, decimal_some}
@@ -32,6 +34,24 @@ module _ (at number : ℕ) (first : List ℕ) where
   none_passed place ends inside = record { same_size = refl; inside = inside; up_to = ends; front = refl; whole = rw ends }
 
   module _ (text : List ℕ) (left place : ℕ) (passed : FieldPassed text left place) where
+    -- While more than one digit is to come, the number left has more than one.
+    pub more_left : at + 1 < place → 10 ≤ left
+    more_left more =
+        let ends : at + length (decimal left) ≡ place = passed.up_to in
+        ⊎_elim
+        (λ low. let single : length (decimal left) ≡ 1 = ap length (decimal_small left low) in absurd (omega arith)) (λ high. high)
+        (cases_lt left 10)
+
+    pub one_left : place ≤ at + 1 → left < 10
+    one_left over =
+        let ends : at + length (decimal left) ≡ place = passed.up_to in
+        ⊎_elim (λ low. low)
+        (λ high.
+        let longer : length (decimal left) ≡ length (decimal (left / 10)) + 1 =
+        ap length (decimal_step left high) ∙ length-append (decimal (left / 10)) ((48 + left % 10) ∷ []) in
+        absurd (omega (arith, decimal_some (left / 10))))
+        (cases_lt left 10)
+
     pub one_passed : (p : ℕ) → p + 1 ≡ place → 10 ≤ left → FieldPassed (set text p (48 + left % 10)) (left / 10) p
     one_passed p is more =
         let size : length text ≡ length first = passed.same_size in

@@ -4,20 +4,32 @@ use native.Mathlib.Omega.{arith}
 use mathlib.Core.Path.{◌≡◌, refl, sym, ap, ◌∙◌}
 use mathlib.Core.Bool.{Bool, true, false, ◌||◌, cond}
 use mathlib.Core.List.{List}
+use Rattle.std.proofs.Common.{Some, None}
 use lib.ListN.{get_or, drop}
 use lib.Seq.{get_or-drop, drop-drop}
 use lib.Dec.{eqb}
 use borrow.Author.Tests.{le-leb, eq-eqb, ne_eqb, eqb-true, eqb-false, lt-ltb, le-ltb}
+use mathlib.Core.Logic.{⊎_elim}
+use Rattle.std.proofs.Common.{Result, Ok, Err}
+use Rattle.std.proofs.lemmas.Bool.{cases_lt}
+use Rattle.std.specs.Result.{OkIff, result_ok}
+use Rattle.rules.specs.LoadList.{event}
 use Rattle.rules.specs.Text.{blank, line_feed, last_slot, last_symbol, is_digit, digit_count, number_from, FieldReading, found, none, read_field}
 use Rattle.rules.specs.Text.{with_symbol, with_slot, with_tick, read_line}
 use Rattle.laws.proofs.Cases.{by_test}
 use Rattle.text.specs.declared.line.Digits.{Digits}
-use Rattle.text.specs.declared.line.FieldFound.TheVariants.{Field, NoField}
-use Rattle.text.specs.declared.line.LineFound.TheVariants.{Line, BadLine}
+use Rattle.text.specs.declared.line.Field.{Field}
+use Rattle.text.specs.declared.line.Line.{Line}
 use Rattle.text.specs.Found.{kept, DigitsFound, FirstDigit, NumberFound, Stop, field_found, line_found}
 use Rattle.text.proofs.Digits.{counts_some, counts_none, takes_none, first_there, counts_first, takes_first}
 
+abbrev pub ending : (tick slot symbol after : ℕ) → Line
+ending tick slot symbol after = record { event = event tick slot symbol; after = after }
+
 -- ---- A number and the byte after it
+
+abbrev pub at_place : (number after : ℕ) → Field
+at_place number after = record { number = number; after = after }
 
 or_true : (a : Bool) → (a || true) ≡ true
 or_true true = refl
@@ -28,7 +40,7 @@ module _ (text : List ℕ) (from stop : ℕ) where
   part = drop from text
 
   -- No digit is there.
-  pub no_digit : is_digit (get_or text from 0) ≡ false → NoField ≡ field_found from (read_field stop part)
+  pub no_digit : is_digit (get_or text from 0) ≡ false → None ≡ field_found from (read_field stop part)
   no_digit other = rw (counts_none text from other)
 
   module _ (first : ℕ) (begins : FirstDigit text from first) (stops : Stop stop) where
@@ -40,7 +52,7 @@ module _ (text : List ℕ) (from stop : ℕ) where
       single : is_digit (get_or text (from + 1) 0) ≡ false → digit_count part ≡ 1
       single other = omega (arith, counts_first text from first begins, counts_none text (from + 1) other)
 
-      zero_ends : get_or text (from + 1) 0 ≡ stop → Field 0 (from + 1 + 1) ≡ field_found from (read_field stop part)
+      zero_ends : get_or text (from + 1) 0 ≡ stop → Some (at_place 0 (from + 1 + 1)) ≡ field_found from (read_field stop part)
       zero_ends ends =
           let other : is_digit (get_or text (from + 1) 0) ≡ false = rw ends stops.no_digit in
           let names : number_from 0 part ≡ 0 =
@@ -48,7 +60,7 @@ module _ (text : List ℕ) (from stop : ℕ) where
           let place : from + 1 + 1 ≡ from + 2 = omega arith in
           rw (single other, eq-eqb (get_or part 1 0) stop (byte_second ∙ ends), names, place)
 
-      zero_goes_on : (get_or text (from + 1) 0 ≡ stop → ⊥) → NoField ≡ field_found from (read_field stop part)
+      zero_goes_on : (get_or text (from + 1) 0 ≡ stop → ⊥) → None ≡ field_found from (read_field stop part)
       zero_goes_on differs =
           by_test (is_digit (get_or text (from + 1) 0))
           (λ digit.
@@ -82,7 +94,7 @@ module _ (text : List ℕ) (from stop : ℕ) where
       other_is : (first ≡ 48 → ⊥) → DigitsFound 0 part from r
       other_is some = is.other (λ zero. some (sym (first_there text from first begins) ∙ zero))
 
-      pub other_byte : (get_or text r.end 0 ≡ stop → ⊥) → NoField ≡ field_found from (read_field stop part)
+      pub other_byte : (get_or text r.end 0 ≡ stop → ⊥) → None ≡ field_found from (read_field stop part)
       other_byte differs =
           by_test (eqb first 48)
           (λ same. let zero = eqb-true first 48 same in zero_goes_on zero (rw (zero_is zero) at differs))
@@ -90,7 +102,7 @@ module _ (text : List ℕ) (from stop : ℕ) where
           let some = eqb-false first 48 other in
           rw (field_is some, ← (other_is some).ends, ne_eqb (get_or text r.end 0) stop differs))
 
-      pub a_number : get_or text r.end 0 ≡ stop → Field r.number (r.end + 1) ≡ field_found from (read_field stop part)
+      pub a_number : get_or text r.end 0 ≡ stop → Some (at_place r.number (r.end + 1)) ≡ field_found from (read_field stop part)
       a_number ends =
           by_test (eqb first 48)
           (λ same. let zero = eqb-true first 48 same in rw (zero_is zero) (zero_ends zero (rw (zero_is zero) at ends)))
@@ -102,23 +114,34 @@ module _ (text : List ℕ) (from stop : ℕ) where
 
 -- ---- A line
 
+-- A number that was tried as a narrower one: it is too great, or it is that number.
+pub too_great : {E : Type 0} (r : Result ℕ E) (n limit : ℕ) → OkIff r (n < limit) n → None ≡ result_ok r → limit ≤ n
+too_great (Ok x) n limit is e = let z : ◌≡◌ {A = ℕ} 0 1 = cc in absurd (omega arith)
+too_great (Err why) n limit is e = ⊎_elim (λ low. absurd (is low)) (λ over. over) (cases_lt n limit)
+
+pub narrowed : {E : Type 0} (r : Result ℕ E) (n limit x : ℕ) → OkIff r (n < limit) n → Some x ≡ result_ok r → (n < limit) × (x ≡ n)
+narrowed (Ok y) n limit x is e = (is.0, (let same : x ≡ y = cc in same) ∙ is.1)
+narrowed (Err why) n limit x is e = let z : ◌≡◌ {A = ℕ} 0 1 = cc in absurd (omega arith)
+
 -- What was found at a place is what the definition finds there.
-as_none : (from : ℕ) (f : FieldReading) → NoField ≡ field_found from f → f ≡ none
+as_none : (from : ℕ) (f : FieldReading) → None ≡ field_found from f → f ≡ none
 as_none from none e = refl
 as_none from (found n size) e = let z : ◌≡◌ {A = ℕ} 0 1 = cc in absurd (omega arith)
 
 pub data FoundAs (from number after : ℕ) : FieldReading → Type 0 where
   found_as : {n size : ℕ} → number ≡ kept n → after ≡ from + size → FoundAs from number after (found n size)
 
-as_found : (from number after : ℕ) (f : FieldReading) → Field number after ≡ field_found from f → FoundAs from number after f
+as_found : (from number after : ℕ) (f : FieldReading) → Some (at_place number after) ≡ field_found from f → FoundAs from number after f
 as_found from number after none e = let z : ◌≡◌ {A = ℕ} 0 1 = cc in absurd (omega arith)
-as_found from number after (found n size) e = found_as {n = n} {size = size} (cc) (cc)
+as_found from number after (found n size) e =
+    let same : at_place number after ≡ record { number = kept n; after = from + size } = cc in
+    found_as {n = n} {size = size} (ap (λ (f : Field). f.number) same) (ap (λ (f : Field). f.after) same)
 
 module _ (text : List ℕ) (from : ℕ) where
   abbrev part_of_line : List ℕ
   part_of_line = drop from text
 
-  pub no_tick : NoField ≡ field_found from (read_field blank part_of_line) → BadLine ≡ line_found from (read_line part_of_line)
+  pub no_tick : None ≡ field_found from (read_field blank part_of_line) → None ≡ line_found from (read_line part_of_line)
   unfolding read_line
   no_tick e = rw (as_none from (read_field blank part_of_line) e)
 
@@ -130,7 +153,7 @@ module _ (text : List ℕ) (from : ℕ) where
     pub ends : after ≡ from + size
     pub line_is : read_line part_of_line ≡ with_slot part_of_line number size (read_field blank (drop after text))
 
-  pub tick_read : (tick after : ℕ) → Field tick after ≡ field_found from (read_field blank part_of_line) → TickRead tick after
+  pub tick_read : (tick after : ℕ) → Some (at_place tick after) ≡ field_found from (read_field blank part_of_line) → TickRead tick after
   unfolding read_line
   tick_read tick after e = by_reading (read_field blank part_of_line) refl (as_found from tick after (read_field blank part_of_line) e)
     where
@@ -148,15 +171,15 @@ module _ (text : List ℕ) (from : ℕ) where
           }
 
   module _ (tick slot_at : ℕ) (before : TickRead tick slot_at) where
-    pub no_slot : NoField ≡ field_found slot_at (read_field blank (drop slot_at text)) → BadLine ≡ line_found from (read_line part_of_line)
+    pub no_slot : None ≡ field_found slot_at (read_field blank (drop slot_at text)) → None ≡ line_found from (read_line part_of_line)
     no_slot e = rw (before.line_is, as_none slot_at (read_field blank (drop slot_at text)) e)
 
-    pub slot_over : (slot after : ℕ) → Field slot after ≡ field_found slot_at (read_field blank (drop slot_at text)) → last_slot < slot
-        → BadLine ≡ line_found from (read_line part_of_line)
+    pub slot_over : (slot after : ℕ) → Some (at_place slot after) ≡ field_found slot_at (read_field blank (drop slot_at text)) → last_slot < slot
+        → None ≡ line_found from (read_line part_of_line)
     slot_over slot after e over = by_reading (read_field blank (drop slot_at text)) refl (as_found slot_at slot after (read_field blank (drop slot_at text)) e)
       where
         by_reading : (f : FieldReading) → read_field blank (drop slot_at text) ≡ f → FoundAs slot_at slot after f
-            → BadLine ≡ line_found from (read_line part_of_line)
+            → None ≡ line_found from (read_line part_of_line)
         by_reading f is (found_as {n} {size} keeps ends) = rw (before.line_is, is, lt-ltb last_slot n (omega arith))
 
     -- Tick and slot were read up to a place.
@@ -165,7 +188,7 @@ module _ (text : List ℕ) (from : ℕ) where
       pub ends : after ≡ from + size
       pub line_is : read_line part_of_line ≡ with_symbol before.number slot size (read_field line_feed (drop after text))
 
-    pub slot_read : (slot after : ℕ) → Field slot after ≡ field_found slot_at (read_field blank (drop slot_at text)) → slot ≤ last_slot
+    pub slot_read : (slot after : ℕ) → Some (at_place slot after) ≡ field_found slot_at (read_field blank (drop slot_at text)) → slot ≤ last_slot
         → SlotRead slot after
     slot_read slot after e low = by_reading (read_field blank (drop slot_at text)) refl (as_found slot_at slot after (read_field blank (drop slot_at text)) e)
       where
@@ -183,24 +206,24 @@ module _ (text : List ℕ) (from : ℕ) where
             }
 
     module _ (slot symbol_at : ℕ) (rest : SlotRead slot symbol_at) where
-      pub no_symbol : NoField ≡ field_found symbol_at (read_field line_feed (drop symbol_at text)) → BadLine ≡ line_found from (read_line part_of_line)
+      pub no_symbol : None ≡ field_found symbol_at (read_field line_feed (drop symbol_at text)) → None ≡ line_found from (read_line part_of_line)
       no_symbol e = rw (rest.line_is, as_none symbol_at (read_field line_feed (drop symbol_at text)) e)
 
-      module _ (symbol after : ℕ) (e : Field symbol after ≡ field_found symbol_at (read_field line_feed (drop symbol_at text))) where
-        pub symbol_over : last_symbol < symbol → BadLine ≡ line_found from (read_line part_of_line)
+      module _ (symbol after : ℕ) (e : Some (at_place symbol after) ≡ field_found symbol_at (read_field line_feed (drop symbol_at text))) where
+        pub symbol_over : last_symbol < symbol → None ≡ line_found from (read_line part_of_line)
         symbol_over over =
             by_reading (read_field line_feed (drop symbol_at text)) refl (as_found symbol_at symbol after (read_field line_feed (drop symbol_at text)) e)
           where
             by_reading : (f : FieldReading) → read_field line_feed (drop symbol_at text) ≡ f → FoundAs symbol_at symbol after f
-                → BadLine ≡ line_found from (read_line part_of_line)
+                → None ≡ line_found from (read_line part_of_line)
             by_reading f is (found_as {n} {size} keeps ends) = rw (rest.line_is, is, lt-ltb last_symbol n (omega arith))
 
-        pub a_line : symbol ≤ last_symbol → Line tick slot symbol after ≡ line_found from (read_line part_of_line)
+        pub a_line : symbol ≤ last_symbol → Some (ending tick slot symbol after) ≡ line_found from (read_line part_of_line)
         a_line low =
             by_reading (read_field line_feed (drop symbol_at text)) refl (as_found symbol_at symbol after (read_field line_feed (drop symbol_at text)) e)
           where
             by_reading : (f : FieldReading) → read_field line_feed (drop symbol_at text) ≡ f → FoundAs symbol_at symbol after f
-                → Line tick slot symbol after ≡ line_found from (read_line part_of_line)
+                → Some (ending tick slot symbol after) ≡ line_found from (read_line part_of_line)
             by_reading f is (found_as {n} {size} keeps ends) =
                 let same : n ≡ symbol = omega arith in
                 let here : after ≡ from + (rest.size + size) = omega (arith, rest.ends) in

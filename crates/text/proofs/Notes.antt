@@ -3,6 +3,7 @@ use Prim.Native.Nat.{ℕ, zero, suc, ◌+◌, ◌*◌, ◌-◌, ◌<◌, ◌≤�
 use native.Mathlib.Omega.{arith}
 use mathlib.Core.Path.{◌≡◌, refl, sym, ap, ◌∙◌}
 use mathlib.Core.List.{List, [], ◌∷◌, ◌++◌, map, map-append, append-nil, append_assoc}
+use Rattle.std.proofs.Common.{Some, None, Ok, Err}
 use lib.ListN.{length, take, drop, length-append, length-map, length-drop, take-append-drop, drop_of_length-le}
 use lib.Seq.{drop_at, drop-drop, length-take-le}
 use Rattle.rules.specs.declared.Event.{Event}
@@ -11,10 +12,11 @@ use Rattle.rules.specs.Refusals.{lent}
 use Rattle.rules.specs.Text.{LineReading, line, bad, TextReading, lines, bad_line, add_line, read_line, first_line, read_lines, lines_of}
 use Rattle.laws.proofs.RoundTrip.{length-events, length-list}
 use Rattle.laws.proofs.Writing.{put_after, put_front, length-put, events_snoc}
-use Rattle.text.specs.declared.line.LineFound.TheVariants.{Line, BadLine}
-use Rattle.text.specs.declared.read.LinesFound.TheVariants.{Lines, FirstBad}
-use Rattle.text.specs.Found.{kept, line_found}
-use Rattle.text.specs.Lists.{most_list, kept_event, NotedLines}
+use Rattle.text.specs.declared.line.Line.{Line}
+use Rattle.rules.specs.declared.refusal.Refusal.TheVariants.{LineForm}
+use Rattle.text.specs.Found.{kept, kept_event, line_found}
+use Rattle.text.proofs.Lines.{ending}
+use Rattle.text.specs.Lists.{most_list, NotedLines}
 
 -- ---- What the reading of a text comes to after some lines
 
@@ -55,20 +57,21 @@ read_first left (b ∷ t) some = refl
 
 -- ---- What was found is what the definition finds
 
-as_bad : (from : ℕ) (l : LineReading) → BadLine ≡ line_found from l → l ≡ bad
+as_bad : (from : ℕ) (l : LineReading) → None ≡ line_found from l → l ≡ bad
 as_bad from bad e = refl
 as_bad from (line event size) e = let z : ◌≡◌ {A = ℕ} 0 1 = cc in absurd (omega arith)
 
 data FoundAs (from tick slot symbol after : ℕ) : LineReading → Type 0 where
   found_as : {t size : ℕ} → tick ≡ kept t → after ≡ from + size → FoundAs from tick slot symbol after (line (event t slot symbol) size)
 
-as_line : (from tick slot symbol after : ℕ) (l : LineReading) → Line tick slot symbol after ≡ line_found from l
+as_line : (from tick slot symbol after : ℕ) (l : LineReading) → Some (ending tick slot symbol after) ≡ line_found from l
     → FoundAs from tick slot symbol after l
 as_line from tick slot symbol after bad e = let z : ◌≡◌ {A = ℕ} 0 1 = cc in absurd (omega arith)
 as_line from tick slot symbol after (line this size) e =
-    let slots : this.slot ≡ slot = cc in
-    let symbols : this.symbol ≡ symbol = cc in
-    rw (← slots, ← symbols) (found_as {t = this.tick} {size = size} (cc) (cc))
+    let same : ending tick slot symbol after ≡ ending (kept this.tick) this.slot this.symbol (from + size) = cc in
+    let slots : this.slot ≡ slot = sym (ap (λ (l : Line). l.event.slot) same) in
+    let symbols : this.symbol ≡ symbol = sym (ap (λ (l : Line). l.event.symbol) same) in
+    rw (← slots, ← symbols) (found_as {t = this.tick} {size = size} (ap (λ (l : Line). l.event.tick) same) (ap (λ (l : Line). l.after) same))
 
 -- ---- Noting
 
@@ -97,7 +100,7 @@ module _ (text row : List ℕ) where
         holds = rw (append-nil (take 7 row)) (sym (take-append-drop 7 row));
       }
 
-  bad_noted : (d : ℕ) (row' : List ℕ) → lines_of text ≡ bad_line d → NotedLines text (FirstBad d) row row'
+  bad_noted : (d : ℕ) (row' : List ℕ) → lines_of text ≡ bad_line d → NotedLines text (Err (LineForm d)) row row'
   bad_noted d row' is =
       record {
         reads = rw is;
@@ -144,7 +147,7 @@ module _ (text row : List ℕ) where
         ∙ ap (λ (n : ℕ). (head_bytes count ++ body) ++ drop n row) (sym size)
         ∙ ap (λ (n : ℕ). (head_bytes n ++ body) ++ drop (length (list_bytes (map kept_event noted.events))) row) (sym many)
 
-    stops : read_lines (most_events - count) (drop at text) ≡ bad_line 0 → NotedLines text (FirstBad count) row row'
+    stops : read_lines (most_events - count) (drop at text) ≡ bad_line 0 → NotedLines text (Err (LineForm count)) row row'
     stops is =
         bad_noted count row'
         (noted.rest ∙ ap (add_lines noted.events) is ∙ add_to_bad noted.events 0 ∙ ap bad_line (omega (arith, noted.many)))
@@ -153,7 +156,7 @@ module _ (text row : List ℕ) where
       some_left : 0 < length (drop at text)
       some_left = simp length-drop (omega arith)
 
-      pub too_many : most_events ≤ count → NotedLines text (FirstBad count) row row'
+      pub too_many : most_events ≤ count → NotedLines text (Err (LineForm count)) row row'
       too_many full =
           let none : most_events - count ≡ 0 = omega arith in
           stops (rw none (read_one_too_many (drop at text) some_left))
@@ -165,10 +168,10 @@ module _ (text row : List ℕ) where
             let left : most_events - count ≡ suc (most_events - (count + 1)) = omega arith in
             rw left (read_first (most_events - (count + 1)) (drop at text) some_left)
 
-        pub bad_here : BadLine ≡ line_found at (read_line (drop at text)) → NotedLines text (FirstBad count) row row'
+        pub bad_here : None ≡ line_found at (read_line (drop at text)) → NotedLines text (Err (LineForm count)) row row'
         bad_here e = stops (next ∙ rw (as_bad at (read_line (drop at text)) e))
 
-        pub one_noted : (tick slot symbol after : ℕ) → Line tick slot symbol after ≡ line_found at (read_line (drop at text))
+        pub one_noted : (tick slot symbol after : ℕ) → Some (ending tick slot symbol after) ≡ line_found at (read_line (drop at text))
             → LinesNoted (put_event count (event tick slot symbol) row') after (count + 1)
         one_noted tick slot symbol after e =
             by_line (read_line (drop at text)) refl (as_line at tick slot symbol after (read_line (drop at text)) e)
@@ -198,7 +201,7 @@ module _ (text row : List ℕ) where
                 }
 
     -- All lines are noted; the head comes last.
-    pub all_noted : length text ≤ at → NotedLines text (Lines count) row (put_head count row')
+    pub all_noted : length text ≤ at → NotedLines text (Ok count) row (put_head count row')
     all_noted over =
         let past : drop at text ≡ [] = drop_of_length-le text over in
         let is : lines_of text ≡ lines noted.events =

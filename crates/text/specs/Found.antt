@@ -1,17 +1,22 @@
 -- What the code finds at a place of a text: the digits, a number with the byte after it, and a line, each with the place after it.
-use Rattle.std.specs.Prelude.{ℕ, ◌+◌, ◌<◌, ◌≤◌, min, ◌≡◌, true, false, List, length, get_or}
+use Rattle.std.specs.Prelude.{ℕ, Option, Some, None, Result, Ok, Err, ◌+◌, ◌<◌, ◌≤◌, min, ◌≡◌, true, false, List, length, get_or}
 use Rattle.rules.specs.declared.Written.{Written}
-use Rattle.rules.specs.LoadList.{last_tick}
-use Rattle.rules.specs.Text.{FieldReading, found, none, LineReading, line, bad, is_digit, digit_count, number_from}
+use Rattle.rules.specs.declared.refusal.Refusal.{Refusal}
+use Rattle.rules.specs.declared.Event.{Event}
+use Rattle.rules.specs.Refusing.{refusal_number, refusal_detail}
+use Rattle.rules.specs.LoadList.{event, last_tick}
+use Rattle.rules.specs.Text.{FieldReading, found, none, LineReading, line, bad, is_digit, digit_count, number_from, refused_with, written_of}
 use Rattle.text.specs.declared.line.Digits.{Digits}
-use Rattle.text.specs.declared.line.FieldFound.{FieldFound}
-use Rattle.text.specs.declared.line.FieldFound.TheVariants.{Field, NoField}
-use Rattle.text.specs.declared.line.LineFound.{LineFound}
-use Rattle.text.specs.declared.line.LineFound.TheVariants.{Line, BadLine}
+use Rattle.text.specs.declared.line.Field.{Field}
+use Rattle.text.specs.declared.line.Line.{Line}
 
 -- A number as the code keeps it: one over the last tick is kept as the first one over it.
 abbrev pub kept : ℕ → ℕ
 kept n = min n (last_tick + 1)
+
+-- An event with its tick as the code keeps it.
+abbrev pub kept_event : Event → Event
+kept_event e = event (kept e.tick) e.slot e.symbol
 
 -- A number that was kept, and a byte that is a digit.
 pub record WithDigit (number byte : ℕ) : Type 0 where
@@ -40,14 +45,18 @@ pub record Stop (byte : ℕ) : Type 0 where
   pub some : 0 < byte
   pub no_digit : is_digit byte ≡ false
 
-abbrev pub field_found : ℕ → FieldReading → FieldFound
-field_found from (found n size) = Field (kept n) (from + size)
-field_found from none = NoField
+abbrev pub field_found : ℕ → FieldReading → Option Field
+field_found from (found n size) = Some (record { number = kept n; after = from + size })
+field_found from none = None
 
-abbrev pub line_found : ℕ → LineReading → LineFound
-line_found from (line e size) = Line (kept e.tick) e.slot e.symbol (from + size)
-line_found from bad = BadLine
+abbrev pub line_found : ℕ → LineReading → Option Line
+line_found from (line e size) = Some (record { event = kept_event e; after = from + size })
+line_found from bad = None
 
--- The answer to a call that wrote this many bytes.
+-- The answer to a call that wrote this many bytes, and to one that wrote or was refused.
 abbrev pub wrote_size : ℕ → Written
 wrote_size size = record { number = 0; detail = 0; size = size }
+
+abbrev pub told : Result ℕ Refusal → Written
+told (Ok size) = wrote_size size
+told (Err refusal) = written_of (refused_with (refusal_number refusal) (refusal_detail refusal))

@@ -1,27 +1,23 @@
-// What a call that writes answers: to bytes that were written, and to a refusal.
+// What a call that writes answers: that it wrote, or its refusal.
 ghost use Rattle.std.specs.Prelude.{◌≡◌};
-ghost use Rattle.rules.specs.Text.{refused_with, written_of};
-ghost use Rattle.text.specs.Found.{wrote_size};
+ghost use Rattle.text.specs.Found.{told};
 
-use rules::Written;
+use rules::{Refusal, Written};
 
-// A refusal has its number and its detail, and no size.
-pub fn refusal(number: u32, detail: u32) -> Written
-    ensures { result ≡ written_of (refused_with number detail) }
+// Of bytes that were written their number, of a refusal its number and its detail.
+pub fn told(outcome: Result<u32, Refusal>) -> Written
+    ensures { result ≡ told outcome }
 {
-    Written {
-        number,
-        detail,
-        size: 0,
-    }
-}
-
-pub fn wrote(size: u32) -> Written
-    ensures { result ≡ wrote_size size }
-{
-    Written {
-        number: 0,
-        detail: 0,
-        size,
+    match outcome {
+        Ok(size) => Written {
+            number: 0,
+            detail: 0,
+            size,
+        },
+        Err(refusal) => Written {
+            number: refusal.number(),
+            detail: refusal.detail(),
+            size: 0,
+        },
     }
 }

@@ -5,34 +5,18 @@ ghost use Rattle.rules.specs.Text.{decimal, field};
 pub fn digits(number: u32) -> usize
     ensures { (result ≡ length (decimal number)) × (result ≤ 10) }
 {
-    if number < 10 {
-        return 1;
+    match number {
+        0..10 => 1,
+        10..100 => 2,
+        100..1_000 => 3,
+        1_000..10_000 => 4,
+        10_000..100_000 => 5,
+        100_000..1_000_000 => 6,
+        1_000_000..10_000_000 => 7,
+        10_000_000..100_000_000 => 8,
+        100_000_000..1_000_000_000 => 9,
+        _ => 10,
     }
-    if number < 100 {
-        return 2;
-    }
-    if number < 1000 {
-        return 3;
-    }
-    if number < 10000 {
-        return 4;
-    }
-    if number < 100000 {
-        return 5;
-    }
-    if number < 1000000 {
-        return 6;
-    }
-    if number < 10000000 {
-        return 7;
-    }
-    if number < 100000000 {
-        return 8;
-    }
-    if number < 1000000000 {
-        return 9;
-    }
-    10
 }
 
 // Writes a number from a place on, its last digit first, and the byte after it. The answer is the place after that byte.
@@ -44,12 +28,10 @@ pub fn put_field(text: &mut [u8], at: usize, number: u32, stop: u8) -> usize
     let end = at + digits(number);
     text[end] = stop;
     let mut left = number;
-    let mut place = end;
-    while 10 <= left {
-        place -= 1;
-        text[place] = 48 + (left % 10) as u8;
+    for place in (at + 1..end).rev() {
+        text[place] = b'0' + (left % 10) as u8;
         left /= 10;
     }
-    text[place - 1] = 48 + left as u8;
+    text[at] = b'0' + left as u8;
     end + 1
 }

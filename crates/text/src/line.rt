@@ -5,7 +5,7 @@ ghost use Rattle.rules.specs.LoadList.{last_tick};
 ghost use Rattle.rules.specs.Text.{is_digit, read_field, read_line};
 ghost use Rattle.text.specs.Found.{kept, WithDigit, DigitsFound, FirstDigit, NumberFound, Stop, field_found, line_found};
 
-use rules::LAST_TICK;
+use rules::{Event, LAST_TICK};
 
 // The digits from a place on: where they end, and the number that they name.
 #[derive(Drop)]
@@ -14,29 +14,18 @@ pub struct Digits {
     pub number: u32,
 }
 
-// What reading finds at a place: a number and the place after its last byte, or none in the shape.
+// A number with the byte after it, and the place after that byte.
 #[derive(Drop)]
-pub enum FieldFound {
-    Field { number: u32, after: usize },
-    NoField,
+pub struct Field {
+    pub number: u32,
+    pub after: usize,
 }
 
-// The same of a line.
+// A line's event, and the place after the line.
 #[derive(Drop)]
-pub enum LineFound {
-    Line {
-        tick: u32,
-        slot: u8,
-        symbol: u16,
-        after: usize,
-    },
-    BadLine,
-}
-
-fn is_digit(byte: u8) -> bool
-    ensures { result ≡ is_digit byte }
-{
-    if 48 <= byte { byte <= 57 } else { false }
+pub struct Line {
+    pub event: Event,
+    pub after: usize,
 }
 
 // One digit more after a number.
@@ -44,12 +33,7 @@ fn with_digit(number: u32, byte: u8) -> u32
     requires { WithDigit number byte }
     ensures { result ≡ kept (10 * number + (byte - 48)) }
 {
-    let more = 10 * number + (byte - 48) as u32;
-    if LAST_TICK < more {
-        LAST_TICK + 1
-    } else {
-        more
-    }
+    (10 * number + (byte - b'0') as u32).min(LAST_TICK + 1)
 }
 
 // The digits from a place on, after those that made `sum`.
@@ -57,17 +41,18 @@ fn digits_at(text: &[u8], from: usize, sum: u32) -> Digits
     requires { sum ≤ last_tick + 1 }
     ensures { DigitsFound sum (drop from text.now) from result }
 {
-    let mut end = from;
     let mut number = sum;
-    while end < text.len() {
+    for end in from..text.len() {
         let byte = text[end];
-        if !is_digit(byte) {
+        if !byte.is_ascii_digit() {
             return Digits { end, number };
         }
         number = with_digit(number, byte);
-        end += 1;
     }
-    Digits { end, number }
+    Digits {
+        end: from.max(text.len()),
+        number,
+    }
 }
 
 // The number whose first digit is at a place. No digit may come after a zero, so a zero is a whole number.
@@ -75,79 +60,50 @@ fn number_at(text: &[u8], from: usize, first: u8) -> Digits
     requires { FirstDigit text.now from first }
     ensures { NumberFound (drop from text.now) from result }
 {
-    if first == 48 {
+    if first == b'0' {
         return Digits {
             end: from + 1,
             number: 0,
         };
     }
-    digits_at(text, from + 1, (first - 48) as u32)
+    digits_at(text, from + 1, (first - b'0') as u32)
 }
 
-// A number from a place on that ends with this byte.
-fn field_at(text: &[u8], from: usize, stop: u8) -> FieldFound
+// A number from a place on that ends with this byte, or none where there is no number in the shape.
+fn field_at(text: &[u8], from: usize, stop: u8) -> Option<Field>
     requires { Stop stop }
     ensures { result ≡ field_found from (read_field stop (drop from text.now)) }
 {
-    if text.len() <= from {
-        return FieldFound::NoField;
+    let first = *text.get(from)?;
+    if !first.is_ascii_digit() {
+        return None;
     }
-    let first = text[from];
-    if !is_digit(first) {
-        return FieldFound::NoField;
+    let Digits { end, number } = number_at(text, from, first);
+    if *text.get(end)? != stop {
+        return None;
     }
-    let digits = number_at(text, from, first);
-    let end = digits.end;
-    if text.len() <= end {
-        return FieldFound::NoField;
-    }
-    if text[end] != stop {
-        return FieldFound::NoField;
-    }
-    FieldFound::Field {
-        number: digits.number,
+    Some(Field {
+        number,
         after: end + 1,
-    }
+    })
 }
 
-// The line from a place on.
-pub fn line_at(text: &[u8], from: usize) -> LineFound
+// The line from a place on, or none where it is outside the shape.
+pub fn line_at(text: &[u8], from: usize) -> Option<Line>
     ensures { result ≡ line_found from (read_line (drop from text.now)) }
 {
-    let first = field_at(text, from, 32);
-    let FieldFound::Field {
-        number: tick,
-        after: slot_at,
-    } = first
-    else {
-        return LineFound::BadLine;
+    let first = field_at(text, from, b' ')?;
+    let second = field_at(text, first.after, b' ')?;
+    let slot = u8::try_from(second.number).ok()?;
+    let third = field_at(text, second.after, b'\n')?;
+    let symbol = u16::try_from(third.number).ok()?;
+    let event = Event {
+        tick: first.number,
+        slot,
+        symbol,
     };
-    let second = field_at(text, slot_at, 32);
-    let FieldFound::Field {
-        number: slot,
-        after: symbol_at,
-    } = second
-    else {
-        return LineFound::BadLine;
-    };
-    if 255 < slot {
-        return LineFound::BadLine;
-    }
-    let third = field_at(text, symbol_at, 10);
-    let FieldFound::Field {
-        number: symbol,
-        after,
-    } = third
-    else {
-        return LineFound::BadLine;
-    };
-    if 65535 < symbol {
-        return LineFound::BadLine;
-    }
-    LineFound::Line {
-        tick,
-        slot: slot as u8,
-        symbol: symbol as u16,
-        after,
-    }
+    Some(Line {
+        event,
+        after: third.after,
+    })
 }

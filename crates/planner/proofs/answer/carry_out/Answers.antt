@@ -1,14 +1,14 @@
 -- The tests are walked in the order of the definition, whatever that order is. A run that is over is written as its loads are noted.
-use Rattle.std.proofs.Common.{ℕ, ◌≡◌, ◌∙◌, sym, ap, Ok, arith}
+use Rattle.std.proofs.Common.{ℕ, ◌≡◌, ◌∙◌, refl, sym, ap, Ok, arith}
 use lib.ListN.{length-replicate}
 use Rattle.std.proofs.lemmas.Result.{err_from_is_err_and}
 use Rattle.rules.specs.declared.refusal.Refusal.TheVariants.{PlanNumber, ShortRoom}
 use Rattle.rules.specs.Job.{call}
 use Rattle.laws.proofs.Verdicts.{end, stop, step}
-use Rattle.laws.proofs.Jobs.{past_call, refused_call}
+use Rattle.laws.proofs.Jobs.{past_call}
 use Rattle.choice.specs.Asks.{plan_number}
 use Rattle.planner.specs.Runs.{run_of, Over}
-use Rattle.planner.proofs.Planning.{room_test_lem, no_plan, a_plan, roomy, refuses, past_tests, few_loads, fitting, never_refused, over_comes, over_writes}
+use Rattle.planner.proofs.Planning.{room_test_lem, no_plan, a_plan, roomy, refuses, call_refuses, past_tests, few_loads, fitting, never_refused, over_comes, over_writes}
 use Rattle.planner.proofs.answer.carry_out.Goals as goal
 
 ruleset walk = (past_call, no_plan, a_plan, stop, step, end, room_test_lem)
@@ -16,8 +16,7 @@ ruleset walk = (past_call, no_plan, a_plan, stop, step, end, room_test_lem)
 pub returns-in_err-shape : goal.returns-in_err-shape
 returns-in_err-shape c =
     let (e, is, same) = err_from_is_err_and c.from_residual.result c.from_residual.ensures.1 in
-    let (comes, writes) =
-    refuses _ c.args.plan c.args.room.now _ (refused_call _ c.read_call.result _ _ c.read_call.ensures c.in_err-shape.was) in
+    let (comes, writes) = call_refuses _ c.args.plan c.args.room.now c.read_call.result _ c.read_call.ensures c.in_err-shape.was in
     rw (is, same) (record { comes_to = comes; writes = writes })
 
 pub returns-in_err-plan : goal.returns-in_err-plan

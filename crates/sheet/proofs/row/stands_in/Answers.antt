@@ -1,23 +1,17 @@
--- The symbol of this turn decides, or the rest of the row does.
-use Rattle.std.proofs.Common.{sym, ◌∙◌, drop, arith}
-use Rattle.laws.proofs.Symbols.{row_found, row_further, row_empty}
+-- What `any` found at the places of the row is whether the symbol stands in it.
+use Rattle.std.proofs.Common.{ℕ, ◌+◌, ◌*◌, ◌≡◌, ◌≢◌, refl, arith, rules}
+use Rattle.std.proofs.lemmas.Iterator.{cases_from_any, YieldsList-from_range}
+use borrow.Author.Tests.{tests}
+use Rattle.rules.specs.Basics.{number16}
+use Rattle.sheet.proofs.Searches.{stands_searched}
 use Rattle.sheet.proofs.row.stands_in.Goals as goal
 
-pub returns-then-number16_at-symbol : goal.returns-then-number16_at-symbol
-returns-then-number16_at-symbol c =
-    sym (row_found c.args.s.now c.loop-left.at c.loop-left.left c.loop-left-test.true c.args.symbol (sym c.number16_at.ensures ∙ c.if-number16_at-symbol.true))
-    ∙ c.loop-left.invariant.same
-
-pub loop-left-preserved : goal.loop-left-preserved
-loop-left-preserved c =
-    record {
-      same =
-          sym
-          (row_further c.args.s.now c.loop-left.at c.loop-left.left c.loop-left-test.true c.args.symbol
-          (λ e. c.if-number16_at-symbol.false (c.number16_at.ensures ∙ e)))
-          ∙ c.loop-left.invariant.same;
-      near = omega arith;
-    }
-
 pub returns : goal.returns
-returns c = sym (row_empty (drop c.loop-left.at c.args.s.now) c.loop-left.left c.args.symbol (omega arith)).0 ∙ c.loop-left.invariant.same
+returns c =
+    let a = c.args in
+    stands_searched a.symbol a.count a.from a.s.now c.any.result
+    (cases_from_any _ _ _
+    (λ (k : ℕ). number16 a.s.now (a.from + 2 * k) ≡ a.symbol)
+    (λ (k : ℕ). number16 a.s.now (a.from + 2 * k) ≢ a.symbol)
+    c.any.ensures.ran (YieldsList-from_range 0 a.count a.count refl (omega arith))
+    (λ x q k. search (rules, tests)) (λ x q k. search (rules, tests)))

@@ -1,29 +1,39 @@
 -- The digits are put from the last one on, and the first one when the loop has ended.
-use Rattle.std.proofs.Common.{◌≡◌, ℕ, ◌+◌, ◌-◌, ◌≤◌, [], ◌∷◌, length, length-append, ap, ◌∙◌, arith}
+use Rattle.std.proofs.Common.{◌≡◌, ℕ, ◌+◌, ◌-◌, ◌≤◌, [], ◌∷◌, length, length-append, length-set, ap, sym, ◌∙◌, arith}
 use Rattle.rules.specs.Text.{decimal, field}
 use Rattle.laws.proofs.Decimals.{decimal_some}
-use Rattle.text.proofs.Fields.{one_passed, all_passed, field_put}
+use Rattle.text.proofs.Fields.{none_passed, more_left, one_left, one_passed, all_passed, field_put}
 use Rattle.text.proofs.decimal.put_field.Goals as goal
 
-pub overflow_sub-place : goal.overflow_sub-place
-overflow_sub-place c = omega (arith, decimal_some c.loop-left.left, c.loop-left.invariant.up_to)
+pub loop-place-init : goal.loop-place-init
+loop-place-init c =
+    let a = c.args in
+    let counted : c.digits.result ≡ length (decimal a.number) = c.digits.ensures.0 in
+    let size : length (field a.number a.stop) ≡ length (decimal a.number) + 1 = length-append (decimal a.number) (a.stop ∷ []) in
+    none_passed a.at a.number _ (a.at + c.digits.result) (ap (λ (n : ℕ). a.at + n) (sym counted))
+    (omega (arith, length-set a.text.now (a.at + c.digits.result) a.stop, c.requires))
 
-pub loop-left-preserved : goal.loop-left-preserved
-loop-left-preserved c =
-    let some : 1 ≤ c.loop-left.place = omega (arith, decimal_some c.loop-left.left, c.loop-left.invariant.up_to) in
-    one_passed c.args.at c.args.number _ c.loop-left.text c.loop-left.left c.loop-left.place c.loop-left.invariant (c.loop-left.place - 1)
-    (omega arith) c.loop-left-test.true
+pub loop-place-preserved : goal.loop-place-preserved
+loop-place-preserved c =
+    let l = c.loop-place in
+    one_passed c.args.at c.args.number _ l.text l.left l.place l.invariant (l.place - 1) (omega arith)
+    (more_left c.args.at c.args.number _ l.text l.left l.place l.invariant c.loop-place-test.true)
 
-pub overflow_sub-text : goal.overflow_sub-text
-overflow_sub-text c = omega (arith, decimal_some c.loop-left.left, c.loop-left.invariant.up_to)
+pub overflow_cast-text-2 : goal.overflow_cast-text-2
+overflow_cast-text-2 c =
+    let l = c.loop-place in omega (arith, one_left c.args.at c.args.number _ l.text l.left l.place l.invariant c.loop-place-test.false)
+
+pub overflow_add-text-2 : goal.overflow_add-text-2
+overflow_add-text-2 c =
+    let l = c.loop-place in omega (arith, one_left c.args.at c.args.number _ l.text l.left l.place l.invariant c.loop-place-test.false)
 
 pub returns-clause-written : goal.returns-clause-written
 returns-clause-written c =
     let a = c.args in
-    let some : 1 ≤ c.loop-left.place = omega (arith, decimal_some c.loop-left.left, c.loop-left.invariant.up_to) in
+    let l = c.loop-place in
     let counted : c.digits.result ≡ length (decimal a.number) = c.digits.ensures.0 in
     let size : length (field a.number a.stop) ≡ length (decimal a.number) + 1 = length-append (decimal a.number) (a.stop ∷ []) in
     let fits : a.at + length (field a.number a.stop) ≤ length a.text.now = c.requires in
-    all_passed a.at a.number _ c.loop-left.text c.loop-left.left c.loop-left.place c.loop-left.invariant (c.loop-left.place - 1)
-    (omega arith) c.loop-left-test.false
+    all_passed a.at a.number _ l.text l.left l.place l.invariant a.at (omega (arith, decimal_some l.left, l.invariant.up_to))
+    (one_left a.at a.number _ l.text l.left l.place l.invariant c.loop-place-test.false)
     ∙ field_put a.text.now a.at a.number a.stop (a.at + c.digits.result) (ap (λ (n : ℕ). a.at + n) counted) (omega arith)

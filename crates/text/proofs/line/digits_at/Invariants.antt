@@ -1,10 +1,6 @@
 -- At each turn the digits passed and those left make up the whole.
-use Rattle.std.proofs.Common.{◌-◌, length}
 use Rattle.text.proofs.Digits.{DigitsPassed}
 use Rattle.text.proofs.line.digits_at.Given as goal
 
 abbrev pub invariant-loop-end : goal.invariant-loop-end
 invariant-loop-end l = DigitsPassed l.sum l.text l.from l.end l.number
-
-abbrev pub decreases-loop-end : goal.decreases-loop-end
-decreases-loop-end l = length l.text - l.end

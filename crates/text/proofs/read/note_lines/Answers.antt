@@ -21,7 +21,7 @@ loop-at-preserved c =
     let l = c.loop-at in
     rw c.put_event.ensures.written
     (one_noted c.args.text.now c.args.row.now l.row l.at l.lines l.invariant c.loop-at-test.true c.if-lines-ge-MOST_EVENTS.false
-    c.in-Line.tick c.in-Line.slot c.in-Line.symbol c.in-Line.after c.in-Line.ensures)
+    c.in-Some.line.event.tick c.in-Some.line.event.slot c.in-Some.line.event.symbol c.in-Some.line.after c.in-Some.ensures)
 
 pub returns : goal.returns
 returns c =

@@ -14,11 +14,11 @@ pub returns-clause-written : goal.returns-clause-written
 returns-clause-written c =
     let a = c.args in
     let text : List ℕ = a.text.now in
-    let first : List ℕ = field a.tick blank in
-    let second : List ℕ = field a.slot blank in
-    let third : List ℕ = field a.symbol line_feed in
-    let size = line_parts a.tick a.slot a.symbol in
-    let room : a.at + length (line_of (event a.tick a.slot a.symbol)) ≤ length text = c.requires in
+    let first : List ℕ = field a.event.tick blank in
+    let second : List ℕ = field a.event.slot blank in
+    let third : List ℕ = field a.event.symbol line_feed in
+    let size = line_parts a.event.tick a.event.slot a.event.symbol in
+    let room : a.at + length (line_of a.event) ≤ length text = c.requires in
     let both : c.put_field-symbol_at.new.text ≡ take a.at text ++ (first ++ second) ++ drop (a.at + length (first ++ second)) text =
     c.put_field-symbol_at.ensures.written
     ∙ ap

@@ -1,15 +1,8 @@
 -- At each turn the bytes counted and those of the lines left make up the whole.
-use Rattle.std.proofs.Common.{◌-◌, ◌≤◌, drop}
+use Rattle.std.proofs.Common.{drop}
 use Rattle.rules.specs.LoadList.{head_size, events_in}
 use Rattle.text.proofs.Texts.{LinesCounted}
 use Rattle.text.proofs.write.text_size.Given as goal
 
 abbrev pub invariant-loop-index : goal.invariant-loop-index
-invariant-loop-index l =
-    record {
-      within : l.index ≤ l.count;
-      counted : LinesCounted (events_in l.count (drop head_size l.list)) l.size l.index;
-    }
-
-abbrev pub decreases-loop-index : goal.decreases-loop-index
-decreases-loop-index l = l.count - l.index
+invariant-loop-index l = LinesCounted (events_in l.list.count (drop head_size l.list.bytes.now)) l.size l.index

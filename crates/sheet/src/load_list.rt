@@ -1,0 +1,59 @@
+// A load list that was read: its bytes, as many as its events need, and the number of its events. Who has one need not test its size again.
+ghost use Rattle.std.specs.Prelude.{◌≡◌, ◌+◌, ◌<◌, ◌∷◌, drop, MatchResult, Some, None};
+ghost use Rattle.rules.specs.LoadList.{read_event, event_at, events_in, head_size};
+ghost use Rattle.rules.specs.Refusals.{read_list};
+ghost use Rattle.rules.specs.declared.refusal.Refusal.TheVariants.{ListForm};
+ghost use Rattle.sheet.specs.Size.{Sized};
+ghost use Rattle.sheet.specs.Ticks.{in_order};
+
+use crate::list::read_list;
+use crate::walk::event_of;
+use rules::{Event, LAST_TICK, Refusal};
+
+#[derive(Clone, Copy)]
+pub struct LoadList<'a> {
+    pub bytes: &'a [u8],
+    pub count: u16,
+    pub ghost sized: { Sized count bytes.now },
+}
+
+impl<'a> LoadList<'a> {
+    // The list in these bytes, or that they are none.
+    pub fn read(bytes: &'a [u8]) -> Result<LoadList<'a>, Refusal>
+        ensures { MatchResult result (λ l. (read_list bytes.now ≡ Some l.count) × (l.bytes ≡ bytes.entry)) (λ r. (read_list bytes.now ≡ None) × (r ≡ ListForm)) }
+    {
+        let Some(count) = read_list(bytes) else {
+            return Err(Refusal::ListForm);
+        };
+        Ok(LoadList { bytes, count })
+    }
+
+    // The event of this number.
+    pub fn event(self, index: u16) -> Event
+        requires { index < self.count }
+        ensures read { Some result ≡ read_event (drop (event_at index) self.entry.bytes.now) }
+        ensures next { drop index (events_in self.entry.count (drop head_size self.entry.bytes.now)) ≡ result ∷ drop (index + 1) (events_in self.entry.count (drop head_size self.entry.bytes.now)) }
+    {
+        let Some(event) = event_of(self.bytes, index as u32) else {
+            unreachable!()
+        };
+        event
+    }
+
+    // The rule of ticks: none is over the limit, and each is above the one before.
+    pub fn check_ticks(self) -> Result<(), Refusal>
+        ensures { result ≡ in_order self.entry.count self.entry.bytes.now }
+    {
+        let mut least: u32 = 0;
+        for index in 0..self.count {
+            let tick = self.event(index).tick;
+            if LAST_TICK < tick || tick < least {
+                return Err(Refusal::EventTick {
+                    event: index as u32,
+                });
+            }
+            least = tick + 1;
+        }
+        Ok(())
+    }
+}
