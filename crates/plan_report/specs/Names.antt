@@ -1,17 +1,10 @@
 -- The plans by their names. (Document 01, "The four plans")
-use Rattle.std.specs.Prelude.{ℕ, suc, Bool, true, false, cond, ◌&&◌, List, [], ◌∷◌, eqb}
-
--- Whether two rows of bytes are the same.
-unfoldable pub same_bytes : List ℕ → List ℕ → Bool
-same_bytes [] [] = true
-same_bytes [] (y ∷ b) = false
-same_bytes (x ∷ a) [] = false
-same_bytes (x ∷ a) (y ∷ b) = eqb x y && same_bytes a b
+use Rattle.std.specs.Prelude.{ℕ, suc, cond, List, [], ◌∷◌, bytes_eq}
 
 -- The first place of a name among some names, or how many they are.
 unfoldable pub name_at : List ℕ → List (List ℕ) → ℕ
 name_at name [] = 0
-name_at name (other ∷ names) = cond (same_bytes name other) 0 (suc (name_at name names))
+name_at name (other ∷ names) = cond (bytes_eq name other) 0 (suc (name_at name names))
 
 -- The names in the order of the plans' numbers: aggressive, conservative, opt, lru.
 abbrev pub names : List (List ℕ)
