@@ -4,7 +4,6 @@
 #![tactic(auto)]
 
 use report::{InWords, JOB_ROOM, LIST_ROOM, Refused};
-use rules::CallReading;
 use std::io;
 use std::io::Write;
 use std::rt::Env;
@@ -17,7 +16,7 @@ fn print_draws<W: Write>(
     ticks: &[u32],
     slots: &[u8],
 ) -> io::Result<()> {
-    let CallReading::Taken(shape) = sheet::read_call(job, rounds) else {
+    let Ok(shape) = sheet::read_call(job, rounds) else {
         return Ok(());
     };
     for (draw, (tick, slot)) in (0..shape.draws).zip(ticks.iter().zip(slots)) {

@@ -8,22 +8,20 @@ use lib.ListN.{length, get_or, set, drop, length-set, get_or-eq_default}
 use lib.Seq.{get_or-set_same, get_or-set_other}
 use lib.Dec.{eqb, ltb}
 use borrow.Author.Tests.{eq-eqb, ne_eqb, eqb-true, eqb-false, lt-ltb, le-ltb}
-use Rattle.rules.specs.declared.MaybeLoad.{MaybeLoad}
-use Rattle.rules.specs.declared.MaybeLoad.TheVariants.{Load, NoLoad}
+use Rattle.std.specs.Prelude.{Option, Some, None}
+use Rattle.rules.specs.declared.Load.{Load}
 use Rattle.rules.specs.declared.Cause.{Cause}
 use Rattle.rules.specs.declared.Cause.TheVariants.{Awaited, Another, Nothing}
 use Rattle.rules.specs.declared.Happening.{Happening}
 use Rattle.rules.specs.declared.Happening.TheVariants.{Draw, Wait}
 use Rattle.rules.specs.declared.TickRecord.{TickRecord}
-use Rattle.rules.specs.declared.Brought.{Brought}
-use Rattle.rules.specs.declared.Brought.TheVariants.{BroughtBy}
-use Rattle.rules.specs.declared.TakenOut.{TakenOut}
 use Rattle.rules.specs.declared.Parts.{Parts}
 use Rattle.rules.specs.declared.Account.{Account}
 use Rattle.rules.specs.Basics.{place, stands}
 use Rattle.rules.specs.Job.{Job}
-use Rattle.rules.specs.LoadList.{Event}
-use Rattle.rules.specs.Display.{State, Rule, going, land, begun_by, beginning, awaited, cause_of, happening_of, wait, moved, record_of, record_at, finished, tick}
+use Rattle.rules.specs.declared.Event.{Event}
+use Rattle.rules.specs.Display.{State, Rule, going, land, begun_by, beginning, awaited, cause_of, happening_of, wait, moved, record_of, record_at}
+use Rattle.rules.specs.Display.{finished, tick}
 use Rattle.rules.specs.Refusals.{due, follow, most_ticks}
 use Rattle.rules.specs.Why.{brought_in, taken_in, more_waits, waits_in, tick_told, told}
 use Rattle.laws.proofs.Cases.{by_test, both_held}
@@ -69,9 +67,9 @@ module _ (d : Display) (held : List ℕ) (q : ℕ) where
 
 -- ---- What a load that ends in this tick brings
 
-module _ (d : Display) (x : ℕ) (earlier : Brought) where
+module _ (d : Display) (x : ℕ) (earlier : Option ℕ) where
   pub brings_it : (e : ℕ) → d.remaining ≡ 1 → d.incoming ≡ x → e ≡ d.loads - 1
-      → BroughtBy e ≡ brought_in x (loading_of d.remaining d.target d.incoming) d.loads earlier
+      → Some e ≡ brought_in x (loading_of d.remaining d.target d.incoming) d.loads earlier
   brings_it e ends same is = rw (ends, eq-eqb d.incoming x same, is)
 
   pub brings_another : d.remaining ≡ 1 → (d.incoming ≡ x → ⊥)
@@ -105,10 +103,10 @@ cause_of_wait s c e = by_held (stands (awaited s) s.slots) e
     by_held true f = let z : ◌≡◌ {A = ℕ} 0 1 = cc in absurd (omega arith)
     by_held false f = cc
 
-begun_is : (job : Job) (asked : MaybeLoad) (s b : State) → beginning job asked s ≡ going b → b ≡ begun_by job asked s
+begun_is : (job : Job) (asked : Option Load) (s b : State) → beginning job asked s ≡ going b → b ≡ begun_by job asked s
 unfolding beginning
-begun_is job NoLoad s b e = cc
-begun_is job (Load q x) s b e = sym (beginning_going job q x s b e).1
+begun_is job None s b e = cc
+begun_is job (Some this) s b e = sym (beginning_going job this.slot this.symbol s b e).1
 
 pub wait_cause : (job : Job) (rule : Rule) (s s' : State) (c : Cause) → tick job rule s ≡ going s' → (record_at job rule s).happening ≡ Wait c
     → c ≡ cause_of s'.loading (awaited s')
@@ -181,7 +179,7 @@ module _ (job : Job) (rule : Rule) (i x : ℕ) where
     -- A tick in which nothing but a wait comes up has nothing but the wait on record.
     quiet_record : (d : Display) → Quiet job rule slots h d
         → record_at job rule (view slots h d)
-        ≡ record { begun = NoLoad; happening = Wait (cause_now d) }
+        ≡ record { begun = None; happening = Wait (cause_now d) }
     quiet_record d quiet =
         ap (λ (s : State). record_of (rule.asks s) (begun_by job (rule.asks s) s)) (sym (nearer_lands slots h d quiet.far))
         ∙ rw (quiet.asks, absent)
@@ -198,7 +196,7 @@ module _ (job : Job) (rule : Rule) (i x : ℕ) where
         ∙ sym is in
         ap (λ (on : TickRecord). tick_told i x on (view slots h d) a) (quiet_record d quiet)
         ∙ ap
-        (λ (b : Brought). record { brought = b; taken = a.taken; waits = cond (eqb d.next i) (more_waits 1 (cause_now d) a.waits) a.waits })
+        (λ (b : Option ℕ). record { brought = b; taken = a.taken; waits = cond (eqb d.next i) (more_waits 1 (cause_now d) a.waits) a.waits })
         (sym (brings_none d x a.brought far))
         ∙ ap (λ (z : Cause). waited_for i d.next 1 z a) still
 
@@ -248,10 +246,10 @@ past_next (Draw q) i next made = omega arith
 past_next (Wait c) i next made = made
 
 -- What an event takes out is what its slot holds.
-taken_so : (x : ℕ) (begun : MaybeLoad) (slots : List ℕ) (loads : ℕ) (k : TakenOut)
+taken_so : (x : ℕ) (begun : Option Load) (slots : List ℕ) (loads : ℕ) (k : Option ℕ)
     → taken_in x begun slots loads k ≡ taken_of x begun (going_out begun slots) loads k
-taken_so x NoLoad slots loads k = refl
-taken_so x (Load q y) slots loads k = refl
+taken_so x None slots loads k = refl
+taken_so x (Some this) slots loads k = refl
 
 -- The waits of a tick and of the stretch after it are of one cause.
 waits_so : (i next m : ℕ) (c : Cause) (hp : Happening) (p : Parts) → hp ≡ Wait c
@@ -286,7 +284,7 @@ module _ (job : Job) (events : List Event) (i x : ℕ) (held : List ℕ) (d : Di
   tick_so out a is =
       let same_out : out ≡ going_out on.begun (land (view held h d)).slots =
       is ∙ ap (going_out (due (drop d.loads events) d.tick)) landed
-      ∙ ap (λ (b : MaybeLoad). going_out b (land (view held h d)).slots) (sym begins) in
+      ∙ ap (λ (b : Option Load). going_out b (land (view held h d)).slots) (sym begins) in
       ap (λ (r : TickRecord). tick_told i x r (view held h d) a) (sym recorded)
       ∙ rw (same_out, ← taken_so x on.begun (land (view held h d)).slots d.loads a.taken)
 

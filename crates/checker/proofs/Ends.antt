@@ -10,7 +10,7 @@ use borrow.Author.Tests.{lt-ltb, le-ltb, ne_eqb}
 use Rattle.rules.specs.declared.Answer.{Answer}
 use Rattle.rules.specs.declared.Unrolled.{Unrolled}
 use Rattle.rules.specs.Job.{Job, Call, shape_of, starting_symbols, job_of, most_load_time, most_draws}
-use Rattle.rules.specs.LoadList.{Event}
+use Rattle.rules.specs.declared.Event.{Event}
 use Rattle.rules.specs.Display.{State, Run, going, refused, then, start, finished, tick, run}
 use Rattle.rules.specs.Refusals.{answer_of, tick_of, slot_of, closing, follow, follows, most_ticks}
 use Rattle.laws.specs.Limits.{Limits}

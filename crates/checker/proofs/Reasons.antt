@@ -5,13 +5,13 @@ use mathlib.Core.Bool.{false}
 use mathlib.Core.List.{List}
 use lib.ListN.{length, get_or, drop}
 use borrow.Author.Tests.{lt-ltb, le-ltb}
-use Rattle.rules.specs.declared.CallReading.TheVariants.{Taken}
-use Rattle.rules.specs.declared.ListReading.TheVariants.{Listed}
+use Rattle.std.specs.Prelude.{Some, Ok}
 use Rattle.rules.specs.declared.Reason.{Reason}
 use Rattle.rules.specs.declared.Unrolled.{Unrolled}
 use Rattle.rules.specs.Order.{clear, met, first_of}
 use Rattle.rules.specs.Job.{Call, call, most_draws, draws_of, job_of}
-use Rattle.rules.specs.LoadList.{Event, events_in, events_of, head_size}
+use Rattle.rules.specs.declared.Event.{Event}
+use Rattle.rules.specs.LoadList.{events_in, events_of, head_size}
 use Rattle.rules.specs.Display.{Run, going, refused, then}
 use Rattle.rules.specs.Refusals.{read_call, read_list, first_bad_tick, short_check, check_tests, checked, follows}
 use Rattle.rules.specs.Why.{untold, account_of, asks_draw, reason_of, why}
@@ -32,7 +32,7 @@ module _ (asked : Call) (list : List ℕ) (draw : ℕ) where
   why_shut n d stops = rw (checked_met asked list most_draws most_draws n d stops)
 
   -- Once job and list were read there is room for every draw, and the order of the events is left.
-  module _ (shape : Unrolled) (count first : ℕ) (taken : read_call asked ≡ Taken shape) (read : read_list list ≡ Listed count)
+  module _ (shape : Unrolled) (count first : ℕ) (taken : read_call asked ≡ Ok shape) (read : read_list list ≡ Some count)
       (found : first ≡ first_bad_tick 0 (events_in count (drop head_size list))) where
     room : false ≡ short_check asked most_draws most_draws
     room =

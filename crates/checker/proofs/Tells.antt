@@ -15,7 +15,7 @@ use Rattle.rules.specs.declared.TickRecord.{TickRecord}
 use Rattle.rules.specs.declared.Parts.{Parts}
 use Rattle.rules.specs.declared.Account.{Account}
 use Rattle.rules.specs.Job.{Job, Call, starting_symbols, job_of, most_load_time, most_draws}
-use Rattle.rules.specs.LoadList.{Event}
+use Rattle.rules.specs.declared.Event.{Event}
 use Rattle.rules.specs.Display.{State, start}
 use Rattle.rules.specs.Refusals.{due, follow, follows, most_ticks}
 use Rattle.rules.specs.Why.{untold, more_waits, waits_in, told}

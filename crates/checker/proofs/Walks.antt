@@ -7,12 +7,12 @@ use mathlib.Core.List.{List, [], ◌∷◌, map, map-append}
 use lib.ListN.{length, take, length-set}
 use lib.Seq.{take-suc-set}
 use borrow.Author.Tests.{lt-leb}
-use Rattle.rules.specs.declared.MaybeLoad.{MaybeLoad}
-use Rattle.rules.specs.declared.MaybeLoad.TheVariants.{Load, NoLoad}
+use Rattle.std.specs.Prelude.{Option, Some, None}
+use Rattle.rules.specs.declared.Load.{Load}
 use Rattle.rules.specs.declared.Happening.{Happening}
 use Rattle.rules.specs.declared.Happening.TheVariants.{Draw, Wait}
 use Rattle.rules.specs.Job.{Job}
-use Rattle.rules.specs.LoadList.{Event}
+use Rattle.rules.specs.declared.Event.{Event}
 use Rattle.rules.specs.Display.{State, Drawn, drawn, start}
 use Rattle.rules.specs.Refusals.{follow, most_ticks, tick_of, slot_of}
 use Rattle.display.specs.declared.state.Display.{Display}
@@ -55,9 +55,9 @@ calm job events slots h d m w j less =
 
 -- ---- The draws noted
 
-begun_made : (d : Display) (b : MaybeLoad) (h : History) → (history_begun d b h).made ≡ h.made
-begun_made d NoLoad h = refl
-begun_made d (Load q x) h = refl
+begun_made : (d : Display) (b : Option Load) (h : History) → (history_begun d b h).made ≡ h.made
+begun_made d None h = refl
+begun_made d (Some this) h = refl
 
 -- A buffer of ticks or of slots, with f what it notes of a draw: after a tick it holds one draw more, or what it held.
 noted_more : (f : Drawn → ℕ) (what : ℕ → ℕ) (d : Display) (hp : Happening) (h : History) (next : ℕ) (buffer : List ℕ)

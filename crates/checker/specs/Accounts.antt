@@ -1,16 +1,13 @@
 -- What the parts of the account of a draw ask for and ensure.
-use Rattle.std.specs.Prelude.{ℕ, ◌+◌, ◌≤◌, ◌<◌, ◌≡◌, cond, List, length, get_or, eqb}
-use Rattle.rules.specs.declared.MaybeLoad.{MaybeLoad}
-use Rattle.rules.specs.declared.MaybeLoad.TheVariants.{Load, NoLoad}
+use Rattle.std.specs.Prelude.{ℕ, ◌+◌, ◌≤◌, ◌<◌, ◌≡◌, cond, List, length, get_or, eqb, Option, Some, None}
+use Rattle.rules.specs.declared.Load.{Load}
 use Rattle.rules.specs.declared.TickRecord.{TickRecord}
-use Rattle.rules.specs.declared.TakenOut.{TakenOut}
-use Rattle.rules.specs.declared.TakenOut.TheVariants.{TakenBy}
 use Rattle.rules.specs.declared.Parts.{Parts}
 use Rattle.rules.specs.declared.Account.{Account}
 use Rattle.rules.specs.declared.Unrolled.{Unrolled}
 use Rattle.rules.specs.declared.Reason.{Reason}
 use Rattle.rules.specs.Job.{Job, Call, free, starting_symbols}
-use Rattle.rules.specs.LoadList.{Event}
+use Rattle.rules.specs.declared.Event.{Event}
 use Rattle.rules.specs.Display.{State, going, start}
 use Rattle.rules.specs.Refusals.{answer_of, follow, follows, most_ticks}
 use Rattle.rules.specs.Why.{untold, brought_in, waits_in, told, reason_of}
@@ -20,14 +17,14 @@ use Rattle.checker.specs.declared.run.Ran.{Ran}
 use Rattle.checker.specs.Follow.{BothRead}
 
 -- What a load that is asked for takes out of these slots.
-abbrev pub going_out : MaybeLoad → List ℕ → ℕ
-going_out NoLoad slots = free
-going_out (Load q x) slots = get_or slots q 0
+abbrev pub going_out : Option Load → List ℕ → ℕ
+going_out None slots = free
+going_out (Some load) slots = get_or slots load.slot 0
 
 -- The event that began took the symbol out where that is what went out.
-abbrev pub taken_of : ℕ → MaybeLoad → ℕ → ℕ → TakenOut → TakenOut
-taken_of x NoLoad out loads earlier = earlier
-taken_of x (Load q y) out loads earlier = cond (eqb out x) (TakenBy loads) earlier
+abbrev pub taken_of : ℕ → Option Load → ℕ → ℕ → Option ℕ → Option ℕ
+taken_of x None out loads earlier = earlier
+taken_of x (Some load) out loads earlier = cond (eqb out x) (Some loads) earlier
 
 -- What a turn of n ticks from a display on adds to the account of draw i: all of them are waits of one cause, or it is a tick that draws.
 abbrev pub turn_told : ℕ → ℕ → Display → ℕ → TickRecord → ℕ → Account → Account

@@ -1,11 +1,10 @@
 -- What the parts of a check ask for and ensure: a tick along a list, the waits after it, the places noted for a draw, and the answer.
-use Rattle.std.specs.Prelude.{ℕ, ◌+◌, ◌-◌, ◌≤◌, ◌<◌, ◌≡◌, true, List, map, length, take, drop, set}
+use Rattle.std.specs.Prelude.{ℕ, ◌+◌, ◌-◌, ◌≤◌, ◌<◌, ◌≡◌, true, List, map, length, take, drop, set, None}
 use Rattle.rules.specs.declared.Unrolled.{Unrolled}
-use Rattle.rules.specs.declared.MaybeLoad.TheVariants.{NoLoad}
 use Rattle.rules.specs.declared.Happening.{Happening}
 use Rattle.rules.specs.declared.Happening.TheVariants.{Draw, Wait}
 use Rattle.rules.specs.Job.{Call, starting_symbols, most_draws}
-use Rattle.rules.specs.LoadList.{Event}
+use Rattle.rules.specs.declared.Event.{Event}
 use Rattle.rules.specs.Display.{Run, finished}
 use Rattle.rules.specs.Refusals.{due, closing, answer_of, tick_of, slot_of, ticks_of, slots_of, lent}
 use Rattle.laws.specs.Limits.{Limits}
@@ -31,7 +30,7 @@ pub record MayTick (asked : Call) (list : List ℕ) (shape : Unrolled) (count : 
 
 -- In m ticks from this display on no event is due and no load ends, and no wait in them is one for ever.
 pub record NothingDue (events : List Event) (d : Display) (m : ℕ) : Type 0 where
-  pub none_due : (j : ℕ) → j < m → due (drop d.loads events) (d.tick + j) ≡ NoLoad
+  pub none_due : (j : ℕ) → j < m → due (drop d.loads events) (d.tick + j) ≡ None
   pub before_end : d.remaining - m ≡ 0 → d.remaining ≡ 0
   pub event_left : 0 < m → d.remaining ≡ 0 → d.loads < length events
 

@@ -3,7 +3,7 @@ use Rattle.std.specs.Prelude.{ℕ, ◌-◌, ◌≤◌, ◌<◌, ◌≡◌, true,
 use Rattle.rules.specs.declared.TickRecord.{TickRecord}
 use Rattle.rules.specs.declared.Unrolled.{Unrolled}
 use Rattle.rules.specs.Job.{Job, Call, job_of}
-use Rattle.rules.specs.LoadList.{Event}
+use Rattle.rules.specs.declared.Event.{Event}
 use Rattle.rules.specs.Display.{State, Run, going, then, finished, run}
 use Rattle.rules.specs.Refusals.{closing, follow, most_ticks, tick_of, slot_of}
 use Rattle.display.specs.View.{History, view}

@@ -10,15 +10,15 @@ ghost use Rattle.checker.specs.Accounts.{going_out, taken_of, turn_told, Countab
 
 use crate::follow::asked_of;
 use display::Display;
-use rules::{Account, Brought, Cause, FREE, Happening, MaybeLoad, Parts, TakenOut, TickRecord};
+use rules::{Account, Cause, FREE, Happening, Load, Parts, TickRecord};
 
 // Before the first tick nothing is told.
 pub fn untold() -> Account
     ensures { result ≡ untold }
 {
     Account {
-        brought: Brought::FromTheStart,
-        taken: TakenOut::NeverTaken,
+        brought: None,
+        taken: None,
         waits: Parts {
             own: 0,
             another: 0,
@@ -39,12 +39,13 @@ fn ends_in(d: Display, slot: u8) -> bool
 
 // What the load that is asked for takes out: what its slot holds once a load that ends in this tick is in its slot. Past the last slot
 // it is 0, as every read past an end is in the rules; such a load is refused.
-fn taken_by(held: &[u16], d: Display, asked: MaybeLoad) -> u16
+fn taken_by(held: &[u16], d: Display, asked: Option<Load>) -> u16
     ensures { result ≡ going_out asked (landed_in d held.now) }
 {
-    let MaybeLoad::Load { slot, symbol: _ } = asked else {
+    let Some(load) = asked else {
         return FREE;
     };
+    let slot = load.slot;
     let at = slot as usize;
     if held.len() <= at {
         return 0;
@@ -71,29 +72,35 @@ fn last_event(loads: u32) -> u32
 }
 
 // A load of the symbol that ends in the tick that comes has brought it.
-fn brought_in(earlier: Brought, d: Display, symbol: u16) -> Brought
+fn brought_in(earlier: Option<u32>, d: Display, symbol: u16) -> Option<u32>
     ensures { result ≡ brought_in symbol (loading_of d.remaining d.target d.incoming) d.loads earlier }
 {
     if d.remaining == 1 {
         if d.incoming == symbol {
-            return Brought::BroughtBy(last_event(d.loads));
+            return Some(last_event(d.loads));
         }
     }
     earlier
 }
 
 // The event that began took the symbol out where that is what its slot held.
-fn taken_in(earlier: TakenOut, begun: MaybeLoad, out: u16, loads: u32, symbol: u16) -> TakenOut
+fn taken_in(
+    earlier: Option<u32>,
+    begun: Option<Load>,
+    out: u16,
+    loads: u32,
+    symbol: u16,
+) -> Option<u32>
     ensures { result ≡ taken_of symbol begun out loads earlier }
 {
     match begun {
-        MaybeLoad::Load { slot: _, symbol: _ } => {
+        Some(_) => {
             if out == symbol {
-                return TakenOut::TakenBy(loads);
+                return Some(loads);
             }
             earlier
         }
-        MaybeLoad::NoLoad => earlier,
+        None => earlier,
     }
 }
 

@@ -8,29 +8,27 @@ ghost use Rattle.sheet.specs.Size.{Sized};
 ghost use Rattle.checker.specs.Follow.{MayTick};
 
 use display::{Display, Ticked, begin, draw_or_wait, land, load_refusal, refused_load};
-use rules::{EventReading, MaybeLoad, Unrolled};
+use rules::{Load, Unrolled};
 
 // What the list asks for in this tick, when this many of its loads have begun.
-pub fn asked_of(list: &[u8], count: u16, loads: u32, tick: u32) -> MaybeLoad
+pub fn asked_of(list: &[u8], count: u16, loads: u32, tick: u32) -> Option<Load>
     requires { Sized count list.now }
     ensures { result ≡ due (drop loads (events_in count (drop head_size list.now))) tick }
 {
     if count as u32 <= loads {
-        return MaybeLoad::NoLoad;
+        return None;
     }
     let reading = sheet::event_of(list, loads);
-    let EventReading::Event {
-        tick: at,
-        slot,
-        symbol,
-    } = reading
-    else {
-        return MaybeLoad::NoLoad;
+    let Some(event) = reading else {
+        return None;
     };
-    if at == tick {
-        return MaybeLoad::Load { slot, symbol };
+    if event.tick == tick {
+        return Some(Load {
+            slot: event.slot,
+            symbol: event.symbol,
+        });
     }
-    MaybeLoad::NoLoad
+    None
 }
 
 // One tick along the list, while draws remain: land, begin what the list asks for, then draw or wait.

@@ -2,7 +2,7 @@
 ghost use Rattle.rules.specs.Job.{call};
 ghost use Rattle.checker.specs.Opening.{Opened};
 
-use rules::{CallReading, ListReading, Unrolled};
+use rules::Unrolled;
 
 // What they come to: the size of what is asked about and the number of the list's events, or the number of the first refusal.
 #[derive(Drop)]
@@ -16,13 +16,13 @@ pub fn opening_of(job: &[u8], list: &[u8], rounds: u32) -> Opening
     ensures { Opened (call job.now rounds) list.now result }
 {
     let reading = sheet::read_call(job, rounds);
-    let CallReading::Taken(shape) = reading else {
+    let Ok(shape) = reading else {
         return Opening::Shut {
             number: sheet::call_number(reading),
         };
     };
     let head = sheet::read_list(list);
-    let ListReading::Listed(count) = head else {
+    let Some(count) = head else {
         return Opening::Shut { number: 8 };
     };
     Opening::Open { shape, count }

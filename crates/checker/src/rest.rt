@@ -1,6 +1,5 @@
 // The waits after a tick along a list: how many of them bring nothing else, and the display after them all.
-ghost use Rattle.std.specs.Prelude.{◌≡◌, ℕ, ◌+◌, ◌<◌, drop};
-ghost use Rattle.rules.specs.declared.MaybeLoad.TheVariants.{NoLoad};
+ghost use Rattle.std.specs.Prelude.{◌≡◌, ℕ, ◌+◌, ◌<◌, drop, None};
 ghost use Rattle.rules.specs.LoadList.{events_in, head_size};
 ghost use Rattle.rules.specs.Refusals.{due};
 ghost use Rattle.display.specs.Still.{Rested};
@@ -8,22 +7,18 @@ ghost use Rattle.sheet.specs.Size.{Sized};
 ghost use Rattle.checker.specs.Follow.{NothingDue, MayWait};
 
 use display::{Display, before_end, pass_waits, smaller};
-use rules::{EventReading, Happening};
+use rules::Happening;
 
 // The ticks from this one on before that of the next event.
 fn ticks_ahead(list: &[u8], count: u16, loads: u32, tick: u32) -> u32
     requires { Sized count list.now × (loads < count) }
-    ensures { (j : ℕ) → j < result → due (drop loads (events_in count (drop head_size list.now))) (tick + j) ≡ NoLoad }
+    ensures { (j : ℕ) → j < result → due (drop loads (events_in count (drop head_size list.now))) (tick + j) ≡ None }
 {
     let reading = sheet::event_of(list, loads);
-    let EventReading::Event {
-        tick: at,
-        slot: _,
-        symbol: _,
-    } = reading
-    else {
+    let Some(event) = reading else {
         return 0;
     };
+    let at = event.tick;
     if tick < at {
         return at - tick;
     }

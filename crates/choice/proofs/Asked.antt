@@ -8,13 +8,13 @@ use lib.ListN.{length, get_or, take, drop, length-drop}
 use lib.Seq.{take_all}
 use lib.Dec.{ltb, leb}
 use borrow.Author.Tests.{lt-ltb, le-ltb, le-leb, lt-leb}
-use Rattle.rules.specs.declared.MaybeLoad.{MaybeLoad}
-use Rattle.rules.specs.declared.MaybeLoad.TheVariants.{Load, NoLoad}
+use Rattle.std.specs.Prelude.{Option, Some, None}
+use Rattle.rules.specs.declared.Load.{Load}
 use Rattle.rules.specs.declared.Loading.{Loading}
 use Rattle.rules.specs.declared.Loading.TheVariants.{Idle}
 use Rattle.rules.specs.Basics.{place, stands}
 use Rattle.rules.specs.Job.{Job}
-use Rattle.rules.specs.Display.{State, idle, awaited}
+use Rattle.rules.specs.Display.{load, State, idle, awaited}
 use Rattle.rules.specs.Plans.{rank, furthest, behind, both_ways, missing, aggressive, on_demand, opt_slot, opt, lru, earliest_at}
 use Rattle.choice.specs.declared.ask.Order.{Order}
 use Rattle.choice.specs.declared.ask.Order.TheVariants.{Due, Nothing}
@@ -28,14 +28,14 @@ ap3 f p q r = rw (p, q, r)
 
 -- ---- Aggressive
 
-aggressive_from : Job → Loading → List ℕ → List ℕ → MaybeLoad
+aggressive_from : Job → Loading → List ℕ → List ℕ → Option Load
 aggressive_from job loading slots rest =
     cond
     (idle loading
     && ltb (missing slots rest) (length rest)
     && leb (missing slots rest) (rank rest (get_or slots (furthest job rest slots) 0)))
-    (Load (furthest job rest slots) (get_or rest (missing slots rest) 0))
-    NoLoad
+    (Some (load (furthest job rest slots) (get_or rest (missing slots rest) 0)))
+    None
 
 module _ (job : Job) (s : State) (slots rest : List ℕ) (still : Quiet job s slots) (remain : s.rest ≡ rest) where
   aggressive_from_lem : (aggressive job).asks s ≡ aggressive_from job Idle slots rest
@@ -43,19 +43,19 @@ module _ (job : Job) (s : State) (slots rest : List ℕ) (still : Quiet job s sl
   aggressive_from_lem = ap3 (aggressive_from job) still.idle still.held remain
 
   module _ (p : ℕ) (first : p ≡ missing slots rest) where
-    pub aggressive_none : length rest ≤ p → NoLoad ≡ (aggressive job).asks s
+    pub aggressive_none : length rest ≤ p → None ≡ (aggressive job).asks s
     unfolding aggressive_from
     aggressive_none over = sym (aggressive_from_lem ∙ rw (← first, le-ltb p (length rest) over))
 
     module _ (within : p < length rest) (q : ℕ) (chosen : q ≡ furthest job rest slots) where
-      pub aggressive_soon : rank rest (get_or slots q 0) < p → NoLoad ≡ (aggressive job).asks s
+      pub aggressive_soon : rank rest (get_or slots q 0) < p → None ≡ (aggressive job).asks s
       unfolding aggressive_from
       aggressive_soon before =
           sym
           (aggressive_from_lem
           ∙ rw (← first, ← chosen, lt-ltb p (length rest) within, lt-leb p (rank rest (get_or slots q 0)) before))
 
-      pub aggressive_far : p ≤ rank rest (get_or slots q 0) → Load q (get_or rest p 0) ≡ (aggressive job).asks s
+      pub aggressive_far : p ≤ rank rest (get_or slots q 0) → Some (load q (get_or rest p 0)) ≡ (aggressive job).asks s
       unfolding aggressive_from
       aggressive_far far =
           sym
@@ -65,18 +65,18 @@ module _ (job : Job) (s : State) (slots rest : List ℕ) (still : Quiet job s sl
 -- ---- On demand
 
 module _ (job : Job) (s : State) (slot : State → ℕ) (slots : List ℕ) (x : ℕ) (still : Quiet job s slots) (next : awaited s ≡ x) where
-  demand_from : Loading → List ℕ → ℕ → MaybeLoad
-  demand_from loading row y = cond (idle loading && not (stands y row)) (Load (slot s) y) NoLoad
+  demand_from : Loading → List ℕ → ℕ → Option Load
+  demand_from loading row y = cond (idle loading && not (stands y row)) (Some (load (slot s) y)) None
 
   demand_from_lem : (on_demand slot).asks s ≡ demand_from Idle slots x
   unfolding demand_from
   demand_from_lem = ap3 demand_from still.idle still.held next
 
-  pub demand_held : stands x slots ≡ true → NoLoad ≡ (on_demand slot).asks s
+  pub demand_held : stands x slots ≡ true → None ≡ (on_demand slot).asks s
   unfolding demand_from
   demand_held held = sym (demand_from_lem ∙ rw held)
 
-  pub demand_missing : stands x slots ≡ false → (q : ℕ) → q ≡ slot s → Load q x ≡ (on_demand slot).asks s
+  pub demand_missing : stands x slots ≡ false → (q : ℕ) → q ≡ slot s → Some (load q x) ≡ (on_demand slot).asks s
   unfolding demand_from
   demand_missing absent q chosen = sym (demand_from_lem ∙ rw (absent, ← chosen))
 
@@ -84,24 +84,24 @@ module _ (job : Job) (s : State) (slot : State → ℕ) (slots : List ℕ) (x : 
 
 module _ (job : Job) (s : State) (slots rest : List ℕ) (next miss q x : ℕ) (still : Quiet job s slots) (remain : s.rest ≡ rest)
     (at : s.next ≡ next) where
-  earliest_from : Loading → List ℕ → List ℕ → MaybeLoad
-  earliest_from loading row left = cond (idle loading && leb miss (s.next + place (get_or row q 0) left)) (Load q x) NoLoad
+  earliest_from : Loading → List ℕ → List ℕ → Option Load
+  earliest_from loading row left = cond (idle loading && leb miss (s.next + place (get_or row q 0) left)) (Some (load q x)) None
 
   earliest_from_lem : earliest_at miss q x s ≡ earliest_from Idle slots rest
   unfolding earliest_from
   earliest_from_lem = ap3 earliest_from still.idle still.held remain
 
-  pub earliest_not : next + place (get_or slots q 0) rest < miss → NoLoad ≡ earliest_at miss q x s
+  pub earliest_not : next + place (get_or slots q 0) rest < miss → None ≡ earliest_at miss q x s
   unfolding earliest_from
   earliest_not soon = sym (earliest_from_lem ∙ rw (at, lt-leb miss (next + place (get_or slots q 0) rest) soon))
 
-  pub earliest_now : miss ≤ next + place (get_or slots q 0) rest → Load q x ≡ earliest_at miss q x s
+  pub earliest_now : miss ≤ next + place (get_or slots q 0) rest → Some (load q x) ≡ earliest_at miss q x s
   unfolding earliest_from
   earliest_now late = sym (earliest_from_lem ∙ rw (at, le-leb miss (next + place (get_or slots q 0) rest) late))
 
 -- ---- By the plan's number
 
-module _ (job : Job) (order : Order) (s : State) (r : MaybeLoad) where
+module _ (job : Job) (order : Order) (s : State) (r : Option Load) where
   pub by_aggressive : (plan : ℕ) → plan ≡ 0 → r ≡ (aggressive job).asks s → r ≡ asks_by plan job order s
   by_aggressive zero e asks = asks
   by_aggressive (suc plan) e asks = absurd (omega arith)
@@ -153,7 +153,7 @@ module _ (job : Job) (order : Order) (s : State) (r : MaybeLoad) where
     asks_demand plan false rest remain asks alone both = asks_opt plan (both refl) rest remain asks
 
 -- While a load is under way no plan asks for another.
-pub asks_busy : (plan : ℕ) (job : Job) (order : Order) (s : State) → idle s.loading ≡ false → NoLoad ≡ asks_by plan job order s
+pub asks_busy : (plan : ℕ) (job : Job) (order : Order) (s : State) → idle s.loading ≡ false → None ≡ asks_by plan job order s
 asks_busy zero job order s busy = rw busy
 asks_busy (suc zero) job (Due miss q x) s busy = rw busy
 asks_busy (suc zero) job Nothing s busy = refl

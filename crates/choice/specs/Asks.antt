@@ -1,7 +1,6 @@
 -- What a plan asks for, by its number, and how the rules' job and state are seen from what the code is lent.
-use Rattle.std.specs.Prelude.{ℕ, zero, suc, ◌≤◌, ◌≡◌, List, drop, get_or, length}
-use Rattle.rules.specs.declared.MaybeLoad.{MaybeLoad}
-use Rattle.rules.specs.declared.MaybeLoad.TheVariants.{NoLoad}
+use Rattle.std.specs.Prelude.{ℕ, zero, suc, ◌≤◌, ◌≡◌, List, drop, get_or, length, Option, None}
+use Rattle.rules.specs.declared.Load.{Load}
 use Rattle.rules.specs.declared.Loading.TheVariants.{Idle}
 use Rattle.rules.specs.Job.{Job}
 use Rattle.rules.specs.Display.{State, awaited}
@@ -13,11 +12,11 @@ use Rattle.choice.specs.declared.ask.Order.TheVariants.{Due, Nothing}
 use Rattle.choice.specs.Ranks.{WithinLimits}
 
 -- What conservative asks for, told from the next load of opt.
-abbrev pub order_asks : Order → State → MaybeLoad
+abbrev pub order_asks : Order → State → Option Load
 order_asks (Due miss q x) s = earliest_at miss q x s
-order_asks Nothing s = NoLoad
+order_asks Nothing s = None
 
-abbrev pub asks_by : ℕ → Job → Order → State → MaybeLoad
+abbrev pub asks_by : ℕ → Job → Order → State → Option Load
 asks_by zero job order s = (aggressive job).asks s
 asks_by (suc zero) job order s = order_asks order s
 asks_by (suc (suc zero)) job order s = (opt job).asks s
@@ -55,17 +54,17 @@ pub record Lent (job : Job) (h : History) (slots row : List ℕ) (d : Display) (
   pub awaits : awaited (view slots h d) ≡ symbol
 
 -- What is asked for in this tick, by the plan's number, for every job and history that these slots and this row belong to.
-abbrev pub Asked : ℕ → List ℕ → List ℕ → Display → ℕ → Order → MaybeLoad → Type 0
+abbrev pub Asked : ℕ → List ℕ → List ℕ → Display → ℕ → Order → Option Load → Type 0
 Asked plan slots row d symbol order r =
     (h : History) (job : Job) → Lent job h slots row d symbol → r ≡ asks_by plan job order (view slots h d)
 
 -- A load of opt, as early as conservative begins it, with no load under way.
-abbrev pub Earliest : List ℕ → List ℕ → ℕ → ℕ → ℕ → ℕ → MaybeLoad → Type 0
+abbrev pub Earliest : List ℕ → List ℕ → ℕ → ℕ → ℕ → ℕ → Option Load → Type 0
 Earliest slots rest next miss q x r =
     (job : Job) (s : State) → Quiet job s slots → s.rest ≡ rest → s.next ≡ next → r ≡ earliest_at miss q x s
 
 -- A load on demand with no load under way, into the furthest slot along this row.
-abbrev pub OnDemand : List ℕ → List ℕ → ℕ → MaybeLoad → Type 0
+abbrev pub OnDemand : List ℕ → List ℕ → ℕ → Option Load → Type 0
 OnDemand slots row symbol r =
     (job : Job) (s : State) (slot : State → ℕ)
     → Quiet job s slots → awaited s ≡ symbol → slot s ≡ furthest job row slots → r ≡ (on_demand slot).asks s

@@ -9,7 +9,7 @@ ghost use Rattle.choice.specs.Asks.{CanAsk, MayAsk, Quiet, Seen, asks_by, OnDema
 use crate::ranks::{first_greatest, free_first, oldest, ranks_of};
 use crate::search::{missing, next_draw};
 use display::{Display, slot_of};
-use rules::MaybeLoad;
+use rules::Load;
 
 // The load of opt that conservative has yet to begin: the draw that missed, the slot and the symbol.
 #[derive(Drop)]
@@ -20,44 +20,44 @@ pub enum Order {
 
 // Plan 0: the first missing draw's symbol into the furthest slot, unless what that slot holds is drawn before. Its rank says so: it is one
 // more than the place of that draw.
-fn ask_aggressive(slots: &[u16], rest: &[u16]) -> MaybeLoad
+fn ask_aggressive(slots: &[u16], rest: &[u16]) -> Option<Load>
     requires { WithinLimits slots.now rest.now }
     ensures { (job : Job) (s : State) → Quiet job s slots.now → s.rest ≡ rest.now → result ≡ (aggressive job).asks s }
 {
     let place = missing(slots, rest);
     if place == rest.len() {
-        return MaybeLoad::NoLoad;
+        return None;
     }
     let ranks = ranks_of(slots, rest);
     let count = slots.len();
     let slot = first_greatest(&ranks[..count]);
     if ranks[slot as usize] as usize <= place {
-        return MaybeLoad::NoLoad;
+        return None;
     }
-    MaybeLoad::Load {
+    Some(Load {
         slot,
         symbol: rest[place],
-    }
+    })
 }
 
 // Plans 2 and 3: the awaited symbol where no slot holds it, into the furthest slot back along the draws made, or both ways.
-fn ask_on_demand(slots: &[u16], rest: &[u16], made: &[u16], back: bool, symbol: u16) -> MaybeLoad
+fn ask_on_demand(slots: &[u16], rest: &[u16], made: &[u16], back: bool, symbol: u16) -> Option<Load>
     requires { WithinBoth slots.now rest.now made.now }
     ensures { OnDemand slots.now (facing back rest.now made.now) symbol result }
 {
     if slot_of(slots, symbol) < slots.len() {
-        return MaybeLoad::NoLoad;
+        return None;
     }
     if back {
-        return MaybeLoad::Load {
+        return Some(Load {
             slot: oldest(slots, made),
             symbol,
-        };
+        });
     }
-    MaybeLoad::Load {
+    Some(Load {
         slot: free_first(slots, rest, made),
         symbol,
-    }
+    })
 }
 
 // What a slot holds. A slot past the last holds 0, so no slot is refused.
@@ -76,20 +76,27 @@ fn ask_earliest(
     miss: u16,
     slot: u8,
     symbol: u16,
-) -> MaybeLoad
+) -> Option<Load>
     requires { WithinLimits slots.now rest.now }
     ensures { Earliest slots.now rest.now next miss slot symbol result }
 {
     let outgoing = next_draw(rest, content_of(slots, slot));
     if next as usize + outgoing < miss as usize {
-        return MaybeLoad::NoLoad;
+        return None;
     }
-    MaybeLoad::Load { slot, symbol }
+    Some(Load { slot, symbol })
 }
 
 // What the plan asks for with no load under way: lru looks back along the draws made, opt both ways, each other plan along the draws that
 // remain.
-fn choose(plan: u32, slots: &[u16], row: &[u16], next: u16, symbol: u16, order: Order) -> MaybeLoad
+fn choose(
+    plan: u32,
+    slots: &[u16],
+    row: &[u16],
+    next: u16,
+    symbol: u16,
+    order: Order,
+) -> Option<Load>
     requires { CanAsk slots.now row.now next }
     ensures { (job : Job) (s : State) → Seen job s slots.now row.now next symbol → result ≡ asks_by plan job order s }
 {
@@ -104,7 +111,7 @@ fn choose(plan: u32, slots: &[u16], row: &[u16], next: u16, symbol: u16, order: 
             symbol: ordered,
         } = order
         else {
-            return MaybeLoad::NoLoad;
+            return None;
         };
         return ask_earliest(slots, &row[at..], next, miss, slot, ordered);
     }
@@ -120,12 +127,12 @@ pub fn asked_of(
     row: &[u16],
     symbol: u16,
     order: Order,
-) -> MaybeLoad
+) -> Option<Load>
     requires { MayAsk slots.now row.now d symbol }
     ensures { Asked plan slots.now row.now d symbol order result }
 {
     if d.remaining != 0 {
-        return MaybeLoad::NoLoad;
+        return None;
     }
     choose(plan, slots, row, d.next, symbol, order)
 }

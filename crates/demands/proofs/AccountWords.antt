@@ -8,14 +8,14 @@ use mathlib.Core.List.{List, [], ◌∷◌}
 use lib.ListN.{length, get_or}
 use lib.Dec.{eqb, leb}
 use borrow.Author.Tests.{eqb-true, eq-eqb}
+use Rattle.std.specs.Prelude.{Option, Some, None}
 use Rattle.rules.specs.declared.Cause.{Cause}
 use Rattle.rules.specs.declared.Cause.TheVariants.{Awaited, Another, Nothing}
-use Rattle.rules.specs.declared.Brought.{Brought}
-use Rattle.rules.specs.declared.Brought.TheVariants.{BroughtBy, FromTheStart}
 use Rattle.rules.specs.declared.Parts.{Parts}
 use Rattle.rules.specs.declared.Account.{Account}
 use Rattle.rules.specs.Job.{Call, Job, free, draws_of, job_of}
-use Rattle.rules.specs.LoadList.{Event, event, events_of}
+use Rattle.rules.specs.declared.Event.{Event}
+use Rattle.rules.specs.LoadList.{event, events_of}
 use Rattle.rules.specs.Why.{more_waits}
 use Rattle.laws.proofs.Cases.{by_test}
 use Rattle.laws.proofs.Search.{absent_at}
@@ -50,21 +50,25 @@ waits_add asked list draw account r = rw r.accounts (parts_add (job_of asked) (e
 last_in : (q t u y : ℕ) (l : List Event) → last_load q t l ≡ last u y → (j : ℕ) × (j < length l) × (nth_event l j ≡ event u q y)
 unfolding last_load
 last_in q t u y [] e = let z : ◌≡◌ {A = ℕ} 0 1 = cc in absurd (omega arith)
-last_in q t u y (event v r z ∷ l) e = by_load (last_load q t l) refl e (last_in q t u y l)
+last_in q t u y (this ∷ l) e = by_load (last_load q t l) refl e (last_in q t u y l)
   where
-    by_load : (later : LastLoad) → last_load q t l ≡ later → or_else later (cond (eqb r q && leb v t) (last v z) none) ≡ last u y
+    by_load : (later : LastLoad) → last_load q t l ≡ later
+        → or_else later (cond (eqb this.slot q && leb this.tick t) (last this.tick this.symbol) none) ≡ last u y
         → (last_load q t l ≡ last u y → (j : ℕ) × (j < length l) × (nth_event l j ≡ event u q y))
-        → (j : ℕ) × (j < suc (length l)) × (nth_event (event v r z ∷ l) j ≡ event u q y)
+        → (j : ℕ) × (j < suc (length l)) × (nth_event (this ∷ l) j ≡ event u q y)
     by_load none is same in_rest =
-        by_test (eqb r q)
+        by_test (eqb this.slot q)
         (λ f.
-        by_test (leb v t)
+        by_test (leb this.tick t)
         (λ g.
-        let here : last v z ≡ last u y = rw (f, g) at same in
-        let slot : r ≡ q = eqb-true r q f in
-        (0, omega arith, cc))
-        (λ g. let other : none ≡ last u y = rw (f, g) at same in let z : ◌≡◌ {A = ℕ} 0 1 = cc in absurd (omega arith)))
-        (λ f. let other : none ≡ last u y = rw f at same in let z : ◌≡◌ {A = ℕ} 0 1 = cc in absurd (omega arith))
+        let here : last this.tick this.symbol ≡ last u y = rw (f, g) at same in
+        let slot : this.slot ≡ q = eqb-true this.slot q f in
+        let tick : this.tick ≡ u = cc in
+        let symbol : this.symbol ≡ y = cc in
+        let it : event this.tick this.slot this.symbol ≡ event u q y = rw (tick, slot, symbol) in
+        (0, omega arith, it))
+        (λ g. let other : none ≡ last u y = rw (f, g) at same in let impossible : ◌≡◌ {A = ℕ} 0 1 = cc in absurd (omega arith)))
+        (λ f. let other : none ≡ last u y = rw f at same in let impossible : ◌≡◌ {A = ℕ} 0 1 = cc in absurd (omega arith))
     by_load (last u' y') is same in_rest = let (j, within, at) = in_rest (is ∙ same) in (suc j, omega arith, at)
 
 -- A symbol of which no event has ended by a tick and that a slot holds at that tick was there at the start.
@@ -84,7 +88,7 @@ from_no_event job events t q x symbol never (last u y) is holds =
 
 -- A draw whose symbol no event has brought is of a symbol that was in a slot at the start.
 pub from_the_start : (asked : Call) (list : List ℕ) (draw : ℕ) (account : Account) → Explains asked list draw account
-    → account.brought ≡ FromTheStart
+    → account.brought ≡ None
     → (q : ℕ) × (q < (job_of asked).slots) × (get_or (job_of asked).starting q 0 ≡ get_or (draws_of asked) draw 0)
 from_the_start asked list draw account r start_is =
     let job : Job = job_of asked in
@@ -94,15 +98,15 @@ from_the_start asked list draw account r start_is =
     let q : ℕ = get_or r.slots draw 0 in
     let p : Proper job = proper asked _ r.right.job_taken in
     let d : DrawnAt job events (from r.ticks draw) t q x = r.right.sheet.drawn draw r.within in
-    let is : last_of (brings job events t x) BroughtBy FromTheStart (length events) ≡ FromTheStart =
+    let is : last_of (brings job events t x) Some None (length events) ≡ None =
     sym (ap (λ (a : Account). a.brought) r.accounts) ∙ start_is in (
       q,
       d.slot,
       from_no_event job events t q x (absent_at free (draws_of asked) p.drawable draw r.within)
-          (none_of _ (last_such BroughtBy FromTheStart (brings job events t x) (length events)) is) (last_load q t events) refl d.holds,
+          (none_of _ (last_such Some None (brings job events t x) (length events)) is) (last_load q t events) refl d.holds,
     )
   where
-    none_of : {holds : ℕ → Bool} {m : ℕ} (it : Brought) → LastSuch holds BroughtBy FromTheStart m it → it ≡ FromTheStart
+    none_of : {holds : ℕ → Bool} {m : ℕ} (it : Option ℕ) → LastSuch holds Some None m it → it ≡ None
         → (j : ℕ) → j < m → holds j ≡ false
     none_of it (such e within there none_later is) from_start = let z : ◌≡◌ {A = ℕ} 0 1 = cc in absurd (omega arith)
     none_of it (no_such none_holds is) from_start = none_holds

@@ -8,13 +8,12 @@ use lib.ListN.{length, get_or, drop, length-map, length-drop}
 use lib.Seq.{get_or_at, get_or-take, get_or-drop}
 use lib.Dec.{eqb, ltb, leb}
 use borrow.Author.Tests.{ltb-true, ltb-false, leb-true, leb-false, le-leb, lt-leb}
+use Rattle.std.specs.Prelude.{Option, Some, None}
 use Rattle.rules.specs.declared.Loading.{Loading}
 use Rattle.rules.specs.declared.Loading.TheVariants.{Idle, Under}
-use Rattle.rules.specs.declared.Brought.{Brought}
-use Rattle.rules.specs.declared.Brought.TheVariants.{BroughtBy, FromTheStart}
-use Rattle.rules.specs.declared.TakenOut.TheVariants.{TakenBy, NeverTaken}
 use Rattle.rules.specs.Job.{Job}
-use Rattle.rules.specs.LoadList.{Event, event}
+use Rattle.rules.specs.declared.Event.{Event}
+use Rattle.rules.specs.LoadList.{event}
 use Rattle.rules.specs.Display.{Loaded}
 use Rattle.rules.specs.Refusals.{event_of}
 use Rattle.rules.specs.Why.{brought_in}
@@ -54,10 +53,10 @@ true_too false b e = refl
 -- The events of a list in order come no sooner than its lowest tick.
 ruly_at : (least : ℕ) (l : List Event) → Ruly least l → (j : ℕ) → j < length l → least ≤ event_tick (nth_event l j)
 ruly_at least [] h j m = absurd (omega arith)
-ruly_at least (event t q y ∷ l) h zero m = (ruly_first least t q y l h).0
-ruly_at least (event t q y ∷ l) h (suc j) m =
-    let (low, high, more) = ruly_first least t q y l h in
-    let later : t + 1 ≤ event_tick (nth_event l j) = ruly_at (t + 1) l more j (omega arith) in
+ruly_at least (this ∷ l) h zero m = (ruly_first least this.tick this.slot this.symbol l h).0
+ruly_at least (this ∷ l) h (suc j) m =
+    let (low, high, more) = ruly_first least this.tick this.slot this.symbol l h in
+    let later : this.tick + 1 ≤ event_tick (nth_event l j) = ruly_at (this.tick + 1) l more j (omega arith) in
     omega arith
 
 module _ {time least tick next loads : ℕ} {events : List Event} {loading : Loading} {begun : List Loaded}
@@ -116,39 +115,39 @@ module _ (job : Job) (events : List Event) (x : ℕ) where
       ap (λ (b : Bool). eqb (event_symbol (nth_event events j)) x && b) (leb_on (event_tick (nth_event events j) + job.load_time) t other)
 
   -- A load that ends in the next tick brings its symbol in that tick.
-  brings_then : (t loads m u q y : ℕ) (before : Brought) → loads ≡ m + 1 → nth_event events m ≡ event u q y → u + job.load_time ≡ t + 1
+  brings_then : (t loads m u q y : ℕ) (before : Option ℕ) → loads ≡ m + 1 → nth_event events m ≡ event u q y → u + job.load_time ≡ t + 1
       → ((j : ℕ) → j < m → event_tick (nth_event events j) + job.load_time ≤ t)
-      → before ≡ last_of (brings job events t x) BroughtBy FromTheStart loads
-      → cond (eqb y x) (BroughtBy (loads - 1)) before ≡ last_of (brings job events (t + 1) x) BroughtBy FromTheStart loads
+      → before ≡ last_of (brings job events t x) Some None loads
+      → cond (eqb y x) (Some (loads - 1)) before ≡ last_of (brings job events (t + 1) x) Some None loads
   brings_then t loads m u q y before count is ends ended so_far =
       let last : loads - 1 ≡ m = omega arith in
       let now : brings job events t x m ≡ false =
       rw is (false_too (eqb y x) (leb (u + job.load_time) t) (lt-leb (u + job.load_time) t (omega arith))) in
       let then : brings job events (t + 1) x m ≡ eqb y x =
       rw is (true_too (eqb y x) (leb (u + job.load_time) (t + 1)) (le-leb (u + job.load_time) (t + 1) (omega arith))) in
-      let same : before ≡ last_of (brings job events (t + 1) x) BroughtBy FromTheStart m =
+      let same : before ≡ last_of (brings job events (t + 1) x) Some None m =
       (rw count at so_far)
-      ∙ one_further BroughtBy FromTheStart (brings job events t x) m
-      ∙ ap (λ (b : Bool). cond b (BroughtBy m) (last_of (brings job events t x) BroughtBy FromTheStart m)) now
-      ∙ same_tests BroughtBy FromTheStart (brings job events t x) (brings job events (t + 1) x) m
+      ∙ one_further Some None (brings job events t x) m
+      ∙ ap (λ (b : Bool). cond b (Some m) (last_of (brings job events t x) Some None m)) now
+      ∙ same_tests Some None (brings job events t x) (brings job events (t + 1) x) m
       (λ j h. brings_on t j (λ e. let past : event_tick (nth_event events j) + job.load_time ≤ t = ended j h in omega arith)) in
       rw (last, count)
-      (ap (cond (eqb y x) (BroughtBy m)) same
-      ∙ sym (one_further BroughtBy FromTheStart (brings job events (t + 1) x) m
-      ∙ ap (λ (b : Bool). cond b (BroughtBy m) (last_of (brings job events (t + 1) x) BroughtBy FromTheStart m)) then))
+      (ap (cond (eqb y x) (Some m)) same
+      ∙ sym (one_further Some None (brings job events (t + 1) x) m
+      ∙ ap (λ (b : Bool). cond b (Some m) (last_of (brings job events (t + 1) x) Some None m)) then))
 
   -- So what the next tick lands makes of what was brought so far what will have been brought by then.
-  pub brought_on : (tick next loads : ℕ) (rest slots : List ℕ) (loading : Loading) (begun : List Loaded) (before : Brought)
+  pub brought_on : (tick next loads : ℕ) (rest slots : List ℕ) (loading : Loading) (begun : List Loaded) (before : Option ℕ)
       → Sane job next rest slots loading
       → Busy job.load_time (tick + 1) tick loading begun
       → Along job.load_time (tick + 1) tick next loads events loading begun
-      → before ≡ last_of (brings job events tick x) BroughtBy FromTheStart loads
-      → brought_in x loading loads before ≡ last_of (brings job events (tick + 1) x) BroughtBy FromTheStart loads
+      → before ≡ last_of (brings job events tick x) Some None loads
+      → brought_in x loading loads before ≡ last_of (brings job events (tick + 1) x) Some None loads
   brought_on tick next loads rest slots Idle begun before g busy a so_far =
       let many : length begun ≡ loads = as_many a in
       let row : length (map load_tick begun) ≡ length begun = length-map begun load_tick in
       so_far
-      ∙ same_tests BroughtBy FromTheStart (brings job events tick x) (brings job events (tick + 1) x) loads
+      ∙ same_tests Some None (brings job events tick x) (brings job events (tick + 1) x) loads
       (λ j h.
       brings_on tick j
       (λ e.
@@ -161,7 +160,7 @@ module _ (job : Job) (events : List Event) (x : ℕ) where
   brought_on tick next loads rest slots (Under (suc left) q y) begun before g busy a so_far =
       let n : Ending job events tick (suc left) q y loads = ending job events tick next loads rest slots begun (suc left) q y g busy a in
       so_far
-      ∙ same_tests BroughtBy FromTheStart (brings job events tick x) (brings job events (tick + 1) x) loads
+      ∙ same_tests Some None (brings job events tick x) (brings job events (tick + 1) x) loads
       (λ j h.
       brings_on tick j
       (λ e.
@@ -176,11 +175,11 @@ module _ (job : Job) (events : List Event) (x : ℕ) where
   pub taken_on : (tick next loads : ℕ) (loading : Loading) (begun : List Loaded)
       → Busy job.load_time (tick + 1) tick loading begun
       → Along job.load_time (tick + 1) tick next loads events loading begun
-      → last_of (takes job events tick x) TakenBy NeverTaken loads ≡ last_of (takes job events (tick + 1) x) TakenBy NeverTaken loads
+      → last_of (takes job events tick x) Some None loads ≡ last_of (takes job events (tick + 1) x) Some None loads
   taken_on tick next loads loading begun busy a =
       let many : length begun ≡ loads = as_many a in
       let row : length (map load_tick begun) ≡ length begun = length-map begun load_tick in
-      same_tests TakenBy NeverTaken (takes job events tick x) (takes job events (tick + 1) x) loads
+      same_tests Some None (takes job events tick x) (takes job events (tick + 1) x) loads
       (λ j h.
       let past : get_or (map load_tick begun) j 0 < tick + 1 = busy.past j (omega arith) in
       let when : event_tick (nth_event events j) ≡ get_or (map load_tick begun) j 0 = tick_begun a j h in
@@ -189,25 +188,25 @@ module _ (job : Job) (events : List Event) (x : ℕ) where
   -- The events still to come have neither brought nor taken anything.
   module _ (tick next loads : ℕ) (loading : Loading) (begun : List Loaded)
       (a : Along job.load_time (tick + 1) tick next loads events loading begun) where
-    pub all_brought : last_of (brings job events tick x) BroughtBy FromTheStart (length events)
-        ≡ last_of (brings job events tick x) BroughtBy FromTheStart loads
+    pub all_brought : last_of (brings job events tick x) Some None (length events)
+        ≡ last_of (brings job events tick x) Some None loads
     all_brought =
         let some : loads ≤ length events = a.some in
         let split : length events ≡ loads + (length events - loads) = omega arith in
         rw split
-        (none_further BroughtBy FromTheStart (brings job events tick x) loads (length events - loads)
+        (none_further Some None (brings job events tick x) loads (length events - loads)
         (λ k h.
         let later : tick + 1 ≤ event_tick (nth_event events (loads + k)) = to_come_at a k h in
         false_too (eqb (event_symbol (nth_event events (loads + k))) x) _
         (lt-leb (event_tick (nth_event events (loads + k)) + job.load_time) tick (omega arith))))
 
-    pub all_taken : last_of (takes job events tick x) TakenBy NeverTaken (length events)
-        ≡ last_of (takes job events tick x) TakenBy NeverTaken loads
+    pub all_taken : last_of (takes job events tick x) Some None (length events)
+        ≡ last_of (takes job events tick x) Some None loads
     all_taken =
         let some : loads ≤ length events = a.some in
         let split : length events ≡ loads + (length events - loads) = omega arith in
         rw split
-        (none_further TakenBy NeverTaken (takes job events tick x) loads (length events - loads)
+        (none_further Some None (takes job events tick x) loads (length events - loads)
         (λ k h.
         let later : tick + 1 ≤ event_tick (nth_event events (loads + k)) = to_come_at a k h in
         rw (lt-leb (event_tick (nth_event events (loads + k))) tick (omega arith))))

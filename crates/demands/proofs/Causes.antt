@@ -14,7 +14,8 @@ use Rattle.rules.specs.declared.Cause.TheVariants.{Nothing}
 use Rattle.rules.specs.declared.Happening.TheVariants.{Draw, Wait}
 use Rattle.rules.specs.Basics.{place, stands}
 use Rattle.rules.specs.Job.{Job}
-use Rattle.rules.specs.LoadList.{Event, event}
+use Rattle.rules.specs.declared.Event.{Event}
+use Rattle.rules.specs.LoadList.{event}
 use Rattle.rules.specs.Display.{State, Loaded, loaded, going, start, land, beginning, awaited, cause_of, happening_of, asked, finished, run}
 use Rattle.rules.specs.Refusals.{follow, event_of}
 use Rattle.laws.proofs.Cases.{by_test}
@@ -34,20 +35,20 @@ use Rattle.demands.proofs.Holding.{HoldingBetween, HoldingLanded, HoldingBegun, 
 later_none : (t least : ℕ) (l : List Event) → Ruly least l → t < least → last_begun t l ≡ none
 unfolding last_begun
 later_none t least [] h after = refl
-later_none t least (event u r x ∷ l) h after =
-    let (low, high, more) = ruly_first least u r x l h in
-    rw (later_none t (u + 1) l more (omega arith), lt-leb u t (omega arith))
+later_none t least (this ∷ l) h after =
+    let (low, high, more) = ruly_first least this.tick this.slot this.symbol l h in
+    rw (later_none t (this.tick + 1) l more (omega arith), lt-leb this.tick t (omega arith))
 
 front_decides : (t : ℕ) (front later : List Event) → last_begun t later ≡ none → last_begun t (front ++ later) ≡ last_begun t front
 unfolding last_begun
 front_decides t [] later h = h
-front_decides t (event u r x ∷ front) later h = rw (front_decides t front later h)
+front_decides t (this ∷ front) later h = rw (front_decides t front later h)
 
 -- One more event at the end of a list is the last.
 last_here : (t u q x : ℕ) (front : List Event) → u ≤ t → last_begun t (front ++ (event u q x ∷ [])) ≡ last u x
 unfolding last_begun
 last_here t u q x [] h = rw (le-leb u t h)
-last_here t u q x (event v r y ∷ front) h = rw (last_here t u q x front h)
+last_here t u q x (this ∷ front) h = rw (last_here t u q x front h)
 
 -- ---- What the loader says
 

@@ -7,7 +7,7 @@ use mathlib.Core.List.{List}
 use mathlib.Core.Logic.{◌↔◌, ◌⊎◌, inl, inr}
 use lib.ListN.{length}
 use borrow.Author.Tests.{ltb-false}
-use Rattle.rules.specs.declared.CallReading.TheVariants.{Taken}
+use Rattle.std.specs.Prelude.{Ok}
 use Rattle.rules.specs.Order.{clear, first_of}
 use Rattle.rules.specs.Job.{Call, unrolled, draws_of, job_of}
 use Rattle.rules.specs.LoadList.{head_size, event_size}
@@ -70,7 +70,7 @@ plan_never_late asked plan room e =
 -- A plan answers 0 exactly when its job is accepted, its number is one of the four and room is lent.
 pub plan_accepts : (asked : Call) (plan room : ℕ)
     → ((answer_of (planned asked plan room)).number ≡ 0)
-    ↔ ((read_call asked ≡ Taken (unrolled asked)) × (plan ≤ last_plan) × (head_size + event_size * length (draws_of asked) ≤ room))
+    ↔ ((read_call asked ≡ Ok (unrolled asked)) × (plan ≤ last_plan) × (head_size + event_size * length (draws_of asked) ≤ room))
 unfolding job_tests call_tests short_plan
 plan_accepts asked plan room = (
   λ e.
@@ -83,7 +83,7 @@ plan_accepts asked plan room = (
 )
   where
     by_tests : first_of (late_tests asked plan room) ≡ clear
-        → (read_call asked ≡ Taken (unrolled asked)) × (plan ≤ last_plan) × (head_size + event_size * length (draws_of asked) ≤ room)
+        → (read_call asked ≡ Ok (unrolled asked)) × (plan ≤ last_plan) × (head_size + event_size * length (draws_of asked) ≤ room)
     by_tests past =
         let fails = clear_of (late_tests asked plan room) past in
         (clear_taken asked (clear_append (call_tests asked) _ past).0, ltb-false _ _ (fails 6), ltb-false _ _ (fails 7))

@@ -5,8 +5,8 @@ use mathlib.Core.Path.{◌≡◌}
 use mathlib.Core.List.{List}
 use mathlib.Core.Logic.{◌↔◌}
 use lib.ListN.{length}
+use Rattle.std.specs.Prelude.{Ok}
 use Rattle.rules.specs.declared.Answer.{Answer}
-use Rattle.rules.specs.declared.CallReading.TheVariants.{Taken}
 use Rattle.rules.specs.Job.{Call, unrolled, draws_of}
 use Rattle.rules.specs.LoadList.{head_size, event_size}
 use Rattle.rules.specs.Plans.{last_plan}
@@ -47,7 +47,7 @@ pub record Checks (asked : Call) (plan room ticks slots : ℕ) : Type 0 where
 
 -- Of a job that is accepted, each of the four plans with room lent answers 0, and its list, checked with room lent, is accepted with the
 -- same elapsed, waits, loads and longest wait and the same draws.
-pub plans_accepted : (asked : Call) (plan room ticks slots : ℕ) → read_call asked ≡ Taken (unrolled asked) → plan ≤ last_plan
+pub plans_accepted : (asked : Call) (plan room ticks slots : ℕ) → read_call asked ≡ Ok (unrolled asked) → plan ≤ last_plan
     → head_size + event_size * length (draws_of asked) ≤ room → length (draws_of asked) ≤ ticks → length (draws_of asked) ≤ slots
     → Checks asked plan room ticks slots
 plans_accepted asked plan room ticks slots taken known enough tick_room slot_room =

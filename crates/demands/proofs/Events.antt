@@ -7,11 +7,12 @@ use lib.ListN.{length, get_or, take, drop, length-map, length-take, length-drop}
 use lib.Seq.{get_or-take, get_or-drop}
 use lib.Dec.{ltb}
 use borrow.Author.Tests.{ltb-true, ltb-false}
-use Rattle.rules.specs.declared.MaybeLoad.TheVariants.{Load}
+use Rattle.std.specs.Prelude.{Some}
 use Rattle.rules.specs.declared.Loading.{Loading}
 use Rattle.rules.specs.Job.{Job}
-use Rattle.rules.specs.LoadList.{Event, event}
-use Rattle.rules.specs.Display.{State, Loaded, loaded, going, start, run}
+use Rattle.rules.specs.declared.Event.{Event}
+use Rattle.rules.specs.LoadList.{event}
+use Rattle.rules.specs.Display.{load, State, Loaded, loaded, going, start, run}
 use Rattle.rules.specs.Refusals.{follow, due, event_of}
 use Rattle.laws.proofs.Cases.{by_test}
 use Rattle.laws.proofs.Search.{absent_at}
@@ -44,13 +45,13 @@ module _ {time least tick next loads : ℕ} {events : List Event} {loading : Loa
       ∙ begun_tick begun j
 
 -- The event that is due is the first that was not begun.
-pub event_due : (events : List Event) (loads tick q x : ℕ) → due (drop loads events) tick ≡ Load q x → nth_event events loads ≡ event tick q x
+pub event_due : (events : List Event) (loads tick q x : ℕ) → due (drop loads events) tick ≡ Some (load q x) → nth_event events loads ≡ event tick q x
 event_due events loads tick q x asks =
     let (later, first) = due_load (drop loads events) tick q x asks in
     let e : loads + 0 ≡ loads = omega arith in
     ap (nth_event events) (sym e) ∙ sym (get_or-drop loads events 0 (event 0 0 0)) ∙ ap (λ (l : List Event). get_or l 0 (event 0 0 0)) first
 
-pub due_left : (events : List Event) (loads tick q x : ℕ) → due (drop loads events) tick ≡ Load q x → loads < length events
+pub due_left : (events : List Event) (loads tick q x : ℕ) → due (drop loads events) tick ≡ Some (load q x) → loads < length events
 due_left events loads tick q x asks =
     let (later, first) = due_load (drop loads events) tick q x asks in
     let left : length events - loads ≡ suc (length later) = sym (length-drop loads events) ∙ ap length first in

@@ -8,15 +8,15 @@ use lib.ListN.{length, get_or, take, drop, length-map, length-drop}
 use lib.Seq.{get_or_at, get_or-drop, take_all}
 use lib.Dec.{ltb, leb}
 use borrow.Author.Tests.{ltb-true, ltb-false, leb-true}
+use Rattle.std.specs.Prelude.{Some, None}
 use Rattle.rules.specs.declared.Answer.{Answer}
-use Rattle.rules.specs.declared.MaybeLoad.TheVariants.{Load}
 use Rattle.rules.specs.declared.Loading.TheVariants.{Idle}
-use Rattle.rules.specs.declared.ListReading.TheVariants.{Listed, Unreadable}
 use Rattle.rules.specs.Basics.{stands}
 use Rattle.rules.specs.Job.{Call, Job, job_of}
-use Rattle.rules.specs.LoadList.{Event, event, count_of, events_of}
+use Rattle.rules.specs.declared.Event.{Event}
+use Rattle.rules.specs.LoadList.{event, count_of, events_of}
 use Rattle.rules.specs.Order.{clear, first_of}
-use Rattle.rules.specs.Display.{State, Loaded, going, start, idle, awaited, load_tests, finished, run}
+use Rattle.rules.specs.Display.{load, State, Loaded, going, start, idle, awaited, load_tests, finished, run}
 use Rattle.rules.specs.Refusals.{follow, due, event_of, tick_of, slot_of, ticks_of, slots_of, answer_of, most_ticks, follows, read_list, bad_list, checked}
 use Rattle.laws.proofs.Cases.{by_test}
 use Rattle.laws.proofs.Rows.{Each, map_snoc, length-snoc}
@@ -46,7 +46,7 @@ last_tick_begun time end q x begun l =
 
 -- A list whose events may all begin has none of them refused.
 module _ (job : Job) (events : List Event) (end : ℕ) (may : (i : ℕ) → i < length events → MayBegin job events i end) where
-  quiet_then : (q x : ℕ) (s : State) → due (drop s.loads events) s.tick ≡ Load q x → HoldingLanded job events s → s.loading ≡ Idle
+  quiet_then : (q x : ℕ) (s : State) → due (drop s.loads events) s.tick ≡ Some (load q x) → HoldingLanded job events s → s.loading ≡ Idle
   quiet_then q x s asks g =
       let left : s.loads < length events = due_left events s.loads s.tick q x asks in
       idle_if_none s.loading
@@ -62,7 +62,7 @@ module _ (job : Job) (events : List Event) (end : ℕ) (may : (i : ℕ) → i < 
       (may s.loads left).idle (length l.earlier) inside in
       omega arith)
 
-  load_goes : (q x : ℕ) (s : State) → due (drop s.loads events) s.tick ≡ Load q x → HoldingLanded job events s
+  load_goes : (q x : ℕ) (s : State) → due (drop s.loads events) s.tick ≡ Some (load q x) → HoldingLanded job events s
       → first_of (load_tests job q x s) ≡ clear
   load_goes q x s asks g =
       let left : s.loads < length events = due_left events s.loads s.tick q x asks in
@@ -132,7 +132,7 @@ module _ (job : Job) (events : List Event) (ticks slots : List ℕ) (answer : An
 -- What is left of a list begins no sooner than its lowest tick.
 ruly_least : (least : ℕ) (l : List Event) → Ruly least l → 0 < length l → least ≤ event_tick (nth_event l 0)
 ruly_least least [] h more = absurd (omega arith)
-ruly_least least (event t q x ∷ l) h more = (ruly_first least t q x l h).0
+ruly_least least (this ∷ l) h more = (ruly_first least this.tick this.slot this.symbol l h).0
 
 -- So a run along a list with a sheet that is right comes to its end, with no event left.
 module _ (job : Job) (events : List Event) (p : Proper job) (ordered : Ruly 0 events) (ticks slots : List ℕ) (answer : Answer)
@@ -199,10 +199,10 @@ accepted_is_right asked list tick_places slot_places s e =
     }
 
 -- A list that is read passed its test.
-readable : (list : List ℕ) → read_list list ≡ Listed (count_of list) → bad_list list ≡ false
+readable : (list : List ℕ) → read_list list ≡ Some (count_of list) → bad_list list ≡ false
 readable list e =
     by_test (bad_list list)
-    (λ t. let g : Unreadable ≡ Listed (count_of list) = rw t at e in let z : ◌≡◌ {A = ℕ} 0 1 = cc in absurd (omega arith))
+    (λ t. let g : None ≡ Some (count_of list) = rw t at e in let z : ◌≡◌ {A = ℕ} 0 1 = cc in absurd (omega arith))
     (λ t. t)
 
 -- Where a sheet is right by the list alone, the check accepts the list.

@@ -11,7 +11,8 @@ use borrow.Author.Tests.{le-leb, lt-leb, eqb-true, eqb-false, eq-eqb, ne_eqb}
 use Rattle.rules.specs.declared.Loading.{Loading}
 use Rattle.rules.specs.declared.Loading.TheVariants.{Idle, Under}
 use Rattle.rules.specs.Job.{Job, free}
-use Rattle.rules.specs.LoadList.{Event, event}
+use Rattle.rules.specs.declared.Event.{Event}
+use Rattle.rules.specs.LoadList.{event}
 use Rattle.rules.specs.Display.{State, Loaded, loaded, start, landed_slots}
 use Rattle.rules.specs.Refusals.{follow, event_of}
 use Rattle.laws.proofs.Cases.{by_test}
@@ -29,20 +30,20 @@ use Rattle.demands.specs.Held.{LastLoad, none, last, or_else, last_load, leaves,
 later_none : (q t least : ℕ) (l : List Event) → Ruly least l → t < least → last_load q t l ≡ none
 unfolding last_load
 later_none q t least [] h after = refl
-later_none q t least (event u r x ∷ l) h after =
-    let (low, high, more) = ruly_first least u r x l h in
-    rw (later_none q t (u + 1) l more (omega arith), lt-leb u t (omega arith)) (by_test (eqb r q) (λ e. rw e) (λ e. rw e))
+later_none q t least (this ∷ l) h after =
+    let (low, high, more) = ruly_first least this.tick this.slot this.symbol l h in
+    rw (later_none q t (this.tick + 1) l more (omega arith), lt-leb this.tick t (omega arith)) (by_test (eqb this.slot q) (λ e. rw e) (λ e. rw e))
 
 front_decides : (q t : ℕ) (front later : List Event) → last_load q t later ≡ none → last_load q t (front ++ later) ≡ last_load q t front
 unfolding last_load
 front_decides q t [] later h = h
-front_decides q t (event u r x ∷ front) later h = rw (front_decides q t front later h)
+front_decides q t (this ∷ front) later h = rw (front_decides q t front later h)
 
 -- One more event at the end of a list is the last on its own slot, and says nothing about another.
 last_here : (q t u x : ℕ) (front : List Event) → u ≤ t → last_load q t (front ++ (event u q x ∷ [])) ≡ last u x
 unfolding last_load
 last_here q t u x [] h = rw (eq-eqb q q refl, le-leb u t h)
-last_here q t u x (event v r y ∷ front) h = rw (last_here q t u x front h)
+last_here q t u x (this ∷ front) h = rw (last_here q t u x front h)
 
 last_elsewhere : (q t u r x : ℕ) (front : List Event) → (r ≡ q → ⊥) → last_load q t (front ++ (event u r x ∷ [])) ≡ last_load q t front
 last_elsewhere q t u r x front h = front_decides q t front (event u r x ∷ []) (unfold last_load in rw (ne_eqb r q h))

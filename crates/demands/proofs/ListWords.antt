@@ -8,12 +8,13 @@ use lib.ListN.{length, drop, length-map, drop_of_length-le}
 use lib.Seq.{drop-append-le, drop_at}
 use lib.Dec.{leb}
 use borrow.Author.Tests.{eq-eqb, ne_eqb, leb-true, leb-false}
-use Rattle.rules.specs.declared.MaybeLoad.{MaybeLoad}
-use Rattle.rules.specs.declared.MaybeLoad.TheVariants.{Load, NoLoad}
+use Rattle.std.specs.Prelude.{Option, Some, None}
+use Rattle.rules.specs.declared.Load.{Load}
 use Rattle.rules.specs.declared.Happening.{Happening}
 use Rattle.rules.specs.declared.Happening.TheVariants.{Draw, Wait}
 use Rattle.rules.specs.Job.{Job}
-use Rattle.rules.specs.LoadList.{Event, event}
+use Rattle.rules.specs.declared.Event.{Event}
+use Rattle.rules.specs.LoadList.{event}
 use Rattle.rules.specs.Display.{State, Rule, Loaded, going, start, land, beginning, happening_of, moved, asked, tick, finished, run}
 use Rattle.rules.specs.Refusals.{due, follow, event_of}
 use Rattle.laws.proofs.Cases.{by_test}
@@ -30,7 +31,7 @@ use Rattle.demands.proofs.RunWords.{Ticked, ticked, one_tick, one_further}
 due_snoc : (l : List Event) (now t q x : ℕ) → now < t → due (l ++ (event t q x ∷ [])) now ≡ due l now
 unfolding due
 due_snoc [] now t q x later = rw (ne_eqb t now (λ e. omega arith))
-due_snoc (event u r y ∷ l) now t q x later = refl
+due_snoc (this ∷ l) now t q x later = refl
 
 -- A draw and a wait begin nothing and take a tick.
 moved_begun : (h : Happening) (s : State) → (moved h s).begun ≡ s.begun
@@ -42,17 +43,17 @@ moved_tick (Draw q) s = refl
 moved_tick (Wait cause) s = refl
 
 -- Of the loads begun by a later tick, those after the first n say what began at tick `now`.
-record Told (n now : ℕ) (b : MaybeLoad) (tick : ℕ) (begun : List Loaded) : Type 0 where
+record Told (n now : ℕ) (b : Option Load) (tick : ℕ) (begun : List Loaded) : Type 0 where
   says : due (drop n (map event_of begun)) now ≡ b
   some : n ≤ length begun
   later : now < tick
 
 module _ (job : Job) (rule : Rule) where
-  abbrev ToldState : ℕ → ℕ → MaybeLoad → State → Type 0
+  abbrev ToldState : ℕ → ℕ → Option Load → State → Type 0
   ToldState n now b s = Told n now b s.tick s.begun
 
   -- What begins later leaves it so.
-  told_moves : (n now : ℕ) (b : MaybeLoad) → Moves job rule (ToldState n now b) (ToldState n now b) (ToldState n now b)
+  told_moves : (n now : ℕ) (b : Option Load) → Moves job rule (ToldState n now b) (ToldState n now b) (ToldState n now b)
   told_moves n now b =
       record {
         lands = λ s more h. h;
@@ -71,12 +72,12 @@ module _ (job : Job) (rule : Rule) where
       }
 
   -- It is so after the tick itself.
-  told_begun : (s after : State) (b : MaybeLoad) → length s.begun ≡ s.loads → beginning job b (land s) ≡ going after
+  told_begun : (s after : State) (b : Option Load) → length s.begun ≡ s.loads → beginning job b (land s) ≡ going after
       → Told s.loads s.tick b (after.tick + 1) after.begun
   unfolding beginning due
-  told_begun s after NoLoad count e =
+  told_begun s after None count e =
       let same : land s ≡ after = cc in
-      subst (λ (z : State). Told s.loads s.tick NoLoad (z.tick + 1) z.begun) same
+      subst (λ (z : State). Told s.loads s.tick None (z.tick + 1) z.begun) same
       (record {
         says =
             let all : length (map event_of s.begun) ≤ s.loads = omega (arith, length-map s.begun event_of) in
@@ -84,8 +85,8 @@ module _ (job : Job) (rule : Rule) where
         some = omega arith;
         later = omega arith;
       })
-  told_begun s after (Load q x) count e =
-      subst (λ (z : State). Told s.loads s.tick (Load q x) (z.tick + 1) z.begun) (beginning_going job q x (land s) after e).1
+  told_begun s after (Some this) count e =
+      subst (λ (z : State). Told s.loads s.tick (Some this) (z.tick + 1) z.begun) (beginning_going job this.slot this.symbol (land s) after e).1
       (record {
         says = rw (map_snoc, drop_at (map event_of s.begun) _ s.loads (length-map s.begun event_of ∙ count), eq-eqb s.tick s.tick refl);
         some = rw length-snoc (omega arith);
@@ -116,7 +117,7 @@ same_tick job one other s s' s'' asks e f =
     let k : Ticked job one s s' = ticked job one s s' e in
     let l : Ticked job other s s'' = ticked job other s s'' f in
     let same : k.after ≡ l.after =
-    same_going k.after l.after (sym k.began ∙ ap (λ (b : MaybeLoad). beginning job b (land s)) asks ∙ l.began) in
+    same_going k.after l.after (sym k.began ∙ ap (λ (b : Option Load). beginning job b (land s)) asks ∙ l.began) in
     sym k.to ∙ ap (λ (z : State). moved (happening_of z) z) same ∙ l.to
 
 module _ (job : Job) (proper : Proper job) (rule : Rule) (most : ℕ) (last : State) (ran : run job rule most (start job) ≡ going last)

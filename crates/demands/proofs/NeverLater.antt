@@ -6,7 +6,8 @@ use mathlib.Core.List.{List, [], ◌∷◌, map}
 use lib.ListN.{length, get_or, length-map}
 use Rattle.rules.specs.Basics.{place}
 use Rattle.rules.specs.Job.{Job, Call, call, symbols, times_over, unrolled, job_of}
-use Rattle.rules.specs.LoadList.{Event, most_events}
+use Rattle.rules.specs.declared.Event.{Event}
+use Rattle.rules.specs.LoadList.{most_events}
 use Rattle.rules.specs.Order.{Verdict, first_of}
 use Rattle.rules.specs.Display.{State, Rule, Loaded, loaded, going, unless, beginning, happened, tick, run}
 use Rattle.rules.specs.Plans.{ranks_from, greatest, furthest, ahead, opt, run_plan, begun_in, conservative}

@@ -9,7 +9,7 @@ use lib.Dec.{ltb}
 use borrow.Author.Tests.{ltb-true, ltb-false}
 use Rattle.rules.specs.declared.Answer.{Answer}
 use Rattle.rules.specs.Job.{Job}
-use Rattle.rules.specs.LoadList.{Event}
+use Rattle.rules.specs.declared.Event.{Event}
 use Rattle.rules.specs.Plans.{greatest}
 use Rattle.laws.proofs.Cases.{by_test}
 use Rattle.demands.specs.Held.{DrawnAt, from, gaps, Sheet}

@@ -9,14 +9,13 @@ use lib.ListN.{length, take, drop, set}
 use lib.Seq.{set-set, take_at, take-add}
 use lib.Dec.{leb}
 use borrow.Author.Tests.{leb-true, leb-false}
-use Rattle.rules.specs.declared.MaybeLoad.{MaybeLoad}
-use Rattle.rules.specs.declared.MaybeLoad.TheVariants.{Load, NoLoad}
+use Rattle.std.specs.Prelude.{Option, Some, None, Ok}
+use Rattle.rules.specs.declared.Load.{Load}
 use Rattle.rules.specs.declared.Loading.{Loading}
 use Rattle.rules.specs.declared.Loading.TheVariants.{Idle, Under}
-use Rattle.rules.specs.declared.CallReading.TheVariants.{Taken}
 use Rattle.rules.specs.Job.{Job, Call, free, unrolled, job_of}
 use Rattle.rules.specs.LoadList.{last_tick}
-use Rattle.rules.specs.Display.{State, Rule, Loaded, loaded, going, start, land, idle, finished, run}
+use Rattle.rules.specs.Display.{load, State, Rule, Loaded, loaded, going, start, land, idle, finished, run}
 use Rattle.rules.specs.Plans.{opt, run_plan, begun_in, rule_of}
 use Rattle.rules.specs.Refusals.{read_call}
 use Rattle.laws.proofs.Cases.{by_test}
@@ -34,17 +33,17 @@ use Rattle.plan_laws.proofs.Conservative.{load_of, Asked, asked}
 use Rattle.demands.proofs.ListWords.{same_going}
 
 -- What some loads leave in the slots, one after the other, once all have ended.
-unfoldable leaves : List ℕ → List MaybeLoad → List ℕ
+unfoldable leaves : List ℕ → List (Option Load) → List ℕ
 leaves slots [] = slots
-leaves slots (NoLoad ∷ later) = leaves slots later
-leaves slots (Load q x ∷ later) = leaves (set slots q x) later
+leaves slots (None ∷ later) = leaves slots later
+leaves slots (Some this ∷ later) = leaves (set slots this.slot this.symbol) later
 
 -- One load more.
-leaves_snoc : (slots : List ℕ) (l : List MaybeLoad) (q x : ℕ) → leaves slots (l ++ (Load q x ∷ [])) ≡ set (leaves slots l) q x
+leaves_snoc : (slots : List ℕ) (l : List (Option Load)) (q x : ℕ) → leaves slots (l ++ (Some (load q x) ∷ [])) ≡ set (leaves slots l) q x
 unfolding leaves
 leaves_snoc slots [] q x = refl
-leaves_snoc slots (NoLoad ∷ l) q x = leaves_snoc slots l q x
-leaves_snoc slots (Load r y ∷ l) q x = leaves_snoc (set slots r y) l q x
+leaves_snoc slots (None ∷ l) q x = leaves_snoc slots l q x
+leaves_snoc slots (Some this ∷ l) q x = leaves_snoc (set slots this.slot this.symbol) l q x
 
 -- Whatever the rule, the slots, with the load under way counted as landed, are what the loads begun leave of the starting symbols.
 module _ (job : Job) (rule : Rule) where
@@ -143,7 +142,7 @@ module _ (job : Job) (good : Proper job) where
             let one : take (s.loads + 1) loads ≡ take s.loads loads ++ (loaded a.t a.miss q x ∷ []) =
             take-add s.loads 1 loads ∙ ap (λ (l : List Loaded). take s.loads loads ++ take 1 l) a.head in
             map_snoc load_of s.begun (loaded s.tick s.next q x)
-            ∙ ap (λ (l : List MaybeLoad). l ++ (Load q x ∷ [])) h
+            ∙ ap (λ (l : List (Option Load)). l ++ (Some (load q x) ∷ [])) h
             ∙ sym (ap (map load_of) one ∙ map_snoc load_of (take s.loads loads) (loaded a.t a.miss q x));
         draws = λ q s d h. h;
         waits = λ s w h. h;
@@ -151,7 +150,7 @@ module _ (job : Job) (good : Proper job) where
 
 -- With equally many loads begun and none under way, conservative and opt have the same in each slot. So the symbol that goes out with a load
 -- of conservative is the one that goes out with that load of opt.
-pub same_outgoing : (what : Call) → read_call what ≡ Taken (unrolled what) → (t u : ℕ) (s o : State)
+pub same_outgoing : (what : Call) → read_call what ≡ Ok (unrolled what) → (t u : ℕ) (s o : State)
     → run (job_of what) (rule_of (job_of what) 1) t (start (job_of what)) ≡ going s
     → run (job_of what) (rule_of (job_of what) 2) u (start (job_of what)) ≡ going o
     → s.loads ≡ o.loads

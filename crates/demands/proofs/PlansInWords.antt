@@ -8,10 +8,11 @@ use mathlib.Core.List.{List, [], ◌∷◌, map}
 use mathlib.Core.Logic.{◌↔◌}
 use lib.ListN.{length, length-map}
 use lib.Seq.{take_all}
-use Rattle.rules.specs.declared.CallReading.TheVariants.{Taken}
-use Rattle.rules.specs.declared.MaybeLoad.{MaybeLoad}
+use Rattle.std.specs.Prelude.{Option, Ok}
+use Rattle.rules.specs.declared.Load.{Load}
 use Rattle.rules.specs.Job.{Job, Call, unrolled, job_of}
-use Rattle.rules.specs.LoadList.{Event, most_events, last_tick, events_of, list_bytes}
+use Rattle.rules.specs.declared.Event.{Event}
+use Rattle.rules.specs.LoadList.{most_events, last_tick, events_of, list_bytes}
 use Rattle.rules.specs.Display.{State, Rule, going, start, land, asked, finished, run}
 use Rattle.rules.specs.Plans.{rule_of}
 use Rattle.rules.specs.Refusals.{read_call, bad_list, follow, most_ticks, checked, planned, answer_of, event_of, written_by}
@@ -40,9 +41,9 @@ plan_agrees job proper (suc (suc zero)) = opt_agrees job proper
 plan_agrees job proper (suc (suc (suc p))) = lru_agrees job proper
 
 -- At every tick of a plan's run, what begins by the words is what the plan asks for, and nothing else.
-pub plan_tick_in_words : (what : Call) (plan : ℕ) → read_call what ≡ Taken (unrolled what)
+pub plan_tick_in_words : (what : Call) (plan : ℕ) → read_call what ≡ Ok (unrolled what)
     → (t : ℕ) (s : State) → run (job_of what) (rule_of (job_of what) plan) t (start (job_of what)) ≡ going s → 0 < length s.rest
-    → (b : MaybeLoad) → Begins (PlanWords (job_of what) plan (land s)) b ↔ (b ≡ asked (rule_of (job_of what) plan) s)
+    → (b : Option Load) → Begins (PlanWords (job_of what) plan (land s)) b ↔ (b ≡ asked (rule_of (job_of what) plan) s)
 plan_tick_in_words what plan taken t s ran more b =
     let job : Job = job_of what in
     let rule : Rule = rule_of job plan in

@@ -11,7 +11,8 @@ use borrow.Author.Tests.{lt-ltb, ltb-true, le-ltb}
 use Rattle.rules.specs.declared.Account.{Account}
 use Rattle.rules.specs.declared.Reason.{Reason}
 use Rattle.rules.specs.Job.{Call, Job, most_draws, draws_of, job_of}
-use Rattle.rules.specs.LoadList.{Event, events_of}
+use Rattle.rules.specs.declared.Event.{Event}
+use Rattle.rules.specs.LoadList.{events_of}
 use Rattle.rules.specs.Display.{State, Run, going, refused, then, start, finished, tick, run}
 use Rattle.rules.specs.Refusals.{follow, tick_of, slot_of, ticks_of, slots_of, answer_of, most_ticks, checked}
 use Rattle.rules.specs.Why.{untold, told, account_of, asks_draw, reason_of, why}

@@ -8,10 +8,11 @@ use mathlib.Core.Logic.{◌⊎◌, inl, inr}
 use lib.ListN.{length}
 use lib.Dec.{ltb}
 use borrow.Author.Tests.{ltb-true, lt-ltb}
-use Rattle.rules.specs.declared.CallReading.TheVariants.{Taken}
+use Rattle.std.specs.Prelude.{Ok}
 use Rattle.rules.specs.Order.{Verdict, clear, met, first_of}
 use Rattle.rules.specs.Job.{Call, Job, unrolled, job_of}
-use Rattle.rules.specs.LoadList.{Event, events_of}
+use Rattle.rules.specs.declared.Event.{Event}
+use Rattle.rules.specs.LoadList.{events_of}
 use Rattle.rules.specs.Display.{State, Run, going, refused, unless, start, finished, run}
 use Rattle.rules.specs.Plans.{rule_of, run_plan}
 use Rattle.rules.specs.Refusals.{job_tests, call_tests, read_call, follow, most_ticks, closing, follows, check_tests, checked, planned, answer_of}
@@ -59,7 +60,7 @@ plan_found asked plan room n d e = by_verdict (first_of (late_tests asked plan r
         held_and_failed true refl (rw stops at in_limit)
 
 -- A plan of a job that is taken is over in time.
-in_limit : (asked : Call) (plan : ℕ) → read_call asked ≡ Taken (unrolled asked)
+in_limit : (asked : Call) (plan : ℕ) → read_call asked ≡ Ok (unrolled asked)
     → late (run_plan (job_of asked) (rule_of (job_of asked) plan)) ≡ false
 in_limit asked plan taken =
     let d : Done (job_of asked) (rule_of (job_of asked) plan) Any = plan_done (job_of asked) (proper asked _ taken) plan in rw (d.ran, d.over)
@@ -69,14 +70,14 @@ pub never_late : (asked : Call) (plan room d : ℕ) → first_of (late_tests ask
 unfolding job_tests call_tests
 never_late asked plan room d e =
     let g : GivenBy (late_tests asked plan room) 15 d = (given_exactly (late_tests asked plan room) 15 d refl).0 e in
-    let taken : read_call asked ≡ Taken (unrolled asked) = clear_taken asked (clear_append (call_tests asked) _ g.first).0 in
+    let taken : read_call asked ≡ Ok (unrolled asked) = clear_taken asked (clear_append (call_tests asked) _ g.first).0 in
     held_and_failed _ g.holds (in_limit asked plan taken)
 
 -- ---- A check
 
 -- A check whose tests before time begins all fail: its job is taken, and its events are in order.
 clear_so : (asked : Call) (list : List ℕ) (ticks slots : ℕ) → first_of (check_tests asked list ticks slots) ≡ clear
-    → (read_call asked ≡ Taken (unrolled asked)) × Ruly 0 (events_of list)
+    → (read_call asked ≡ Ok (unrolled asked)) × Ruly 0 (events_of list)
 unfolding job_tests call_tests
 clear_so asked list ticks slots e =
     (clear_taken asked (clear_append (call_tests asked) _ e).0, in_order (events_of list) (clear_of (check_tests asked list ticks slots) e 9))

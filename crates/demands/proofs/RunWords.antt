@@ -5,7 +5,8 @@ use mathlib.Core.Path.{◌≡◌, refl, sym, ap, subst, ◌∙◌}
 use mathlib.Core.Bool.{false}
 use mathlib.Core.List.{[]}
 use lib.ListN.{length}
-use Rattle.rules.specs.declared.MaybeLoad.{MaybeLoad}
+use Rattle.std.specs.Prelude.{Option}
+use Rattle.rules.specs.declared.Load.{Load}
 use Rattle.rules.specs.Basics.{place, stands}
 use Rattle.rules.specs.Job.{Job}
 use Rattle.rules.specs.Display.{State, Rule, going, start, land, beginning, awaited, happening_of, moved, asked, tick, finished, run}
@@ -94,7 +95,7 @@ module _ (job : Job) (proper : Proper job) (rule : Rule) (words : State → ℕ 
       let a : Agrees (words (land s)) (asked rule s) = landed_agrees s g more in
       let asks : b ≡ asked rule s = begins_only (words (land s)) (asked rule s) b a fit in
       let asks' : b' ≡ asked rule s = begins_only (words (land s)) (asked rule s) b' a fit' in
-      let same_run : going after' ≡ going after = sym began' ∙ ap (λ (c : MaybeLoad). beginning job c (land s)) (asks' ∙ sym asks) ∙ began in
+      let same_run : going after' ≡ going after = sym began' ∙ ap (λ (c : Option Load). beginning job c (land s)) (asks' ∙ sym asks) ∙ began in
       let same : after' ≡ after = cc in
       let (more_now, after_sane) =
       begun_kept job rule (SaneState job) (SaneState job) (SaneState job) (SaneState job) (sane_moves job rule proper.some_load_time)

@@ -6,9 +6,9 @@ use mathlib.Core.Bool.{true, false}
 use mathlib.Core.List.{List, map}
 use lib.ListN.{length}
 use lib.Seq.{take_all}
+use Rattle.std.specs.Prelude.{Ok}
 use Rattle.rules.specs.declared.Cause.{Cause}
 use Rattle.rules.specs.declared.Happening.TheVariants.{Draw, Wait}
-use Rattle.rules.specs.declared.CallReading.TheVariants.{Taken}
 use Rattle.rules.specs.Job.{Call, Job, unrolled, draws_of, job_of}
 use Rattle.rules.specs.LoadList.{head_size, event_size, last_tick, events_of}
 use Rattle.rules.specs.Basics.{place, stands}
@@ -49,7 +49,7 @@ opt_loads_ended asked list ticks slots room list_accepted enough =
     (omega (arith, same, better.loads_ended, rw whole at ended))
 
 -- Of every job that is accepted, with room lent, conservative is never later than opt, with as many loads.
-pub conservative_before_opt : (asked : Call) (room : ℕ) → read_call asked ≡ Taken (unrolled asked)
+pub conservative_before_opt : (asked : Call) (room : ℕ) → read_call asked ≡ Ok (unrolled asked)
     → head_size + event_size * length (draws_of asked) ≤ room
     → ((answer_of (planned asked 1 room)).elapsed ≤ (answer_of (planned asked 2 room)).elapsed)
     × ((answer_of (planned asked 1 room)).loads ≡ (answer_of (planned asked 2 room)).loads)
@@ -87,7 +87,7 @@ wait_stops job plan s after c began waits quiet =
     (λ t. rw (began, t, always_done job plan after, endless_wait after.loading (awaited after) quiet))
 
 -- At every tick of a plan's run that is a wait, a load is under way, one begun in that tick counted in.
-pub waits_under_way : (what : Call) (plan : ℕ) → read_call what ≡ Taken (unrolled what)
+pub waits_under_way : (what : Call) (plan : ℕ) → read_call what ≡ Ok (unrolled what)
     → (t : ℕ) (s after : State) (c : Cause)
     → run (job_of what) (rule_of (job_of what) plan) t (start (job_of what)) ≡ going s
     → finished s.rest ≡ false

@@ -8,15 +8,15 @@ use mathlib.Core.Logic.{◌⊎◌, inl, inr}
 use lib.ListN.{length, drop, drop_of_length-le}
 use lib.Dec.{eqb, ltb, leb}
 use borrow.Author.Tests.{ltb-true, ltb-false, leb-true, leb-false, le-leb, lt-ltb, le-ltb, eqb-true, eq-eqb, not-true, not-false}
-use Rattle.rules.specs.declared.MaybeLoad.{MaybeLoad}
-use Rattle.rules.specs.declared.MaybeLoad.TheVariants.{Load, NoLoad}
+use Rattle.std.specs.Prelude.{Option, Some, None}
+use Rattle.rules.specs.declared.Load.{Load}
 use Rattle.rules.specs.declared.Loading.{Loading}
 use Rattle.rules.specs.declared.Loading.TheVariants.{Idle, Under}
 use Rattle.rules.specs.declared.Happening.TheVariants.{Wait}
 use Rattle.rules.specs.Basics.{stands}
 use Rattle.rules.specs.Job.{Job, free}
-use Rattle.rules.specs.LoadList.{Event}
-use Rattle.rules.specs.Display.{State, Run, Rule, going, refused, start, land, idle, load_tests, beginning, awaited, cause_of, happening_of, stuck}
+use Rattle.rules.specs.declared.Event.{Event}
+use Rattle.rules.specs.Display.{load, State, Run, Rule, going, refused, start, land, idle, load_tests, beginning, awaited, cause_of, happening_of, stuck}
 use Rattle.rules.specs.Display.{happened, then, asked, tick, finished, run}
 use Rattle.rules.specs.Refusals.{due, follow}
 use Rattle.laws.proofs.Cases.{by_test}
@@ -117,7 +117,7 @@ happened_refused rule s n d e =
 
 module _ (job : Job) (events : List Event) (s : State) where
   -- A refusal of an event is row 10, 11 or 12, tested in this order.
-  event_refused : (q x n d : ℕ) → Due events q x s → beginning job (Load q x) (land s) ≡ refused n d → Refuses job events s n d
+  event_refused : (q x n d : ℕ) → Due events q x s → beginning job (Some (load q x)) (land s) ≡ refused n d → Refuses job events s n d
   unfolding Each
   event_refused q x n d asks e =
       met_by (Refuses job events s) (load_tests job q x (land s)) n d (
@@ -138,17 +138,17 @@ module _ (job : Job) (events : List Event) (s : State) where
       (beginning_refused job q x n d (land s) e)
 
   -- Where nothing is refused at its beginning, a tick is refused only as row 13, and then no event begins in it.
-  wait_refused : (b : MaybeLoad) (after : State) (n d : ℕ) → beginning job b (land s) ≡ going after
+  wait_refused : (b : Option Load) (after : State) (n d : ℕ) → beginning job b (land s) ≡ going after
       → happened (happening_of after) ((follow events).done after) after ≡ refused n d → Refuses job events s n d
   unfolding beginning
-  wait_refused NoLoad after n d began e =
+  wait_refused None after n d began e =
       let same : land s ≡ after = cc in
       let (unheld, quiet, done, is) = happened_refused (follow events) (land s) n d (rw (← same) at e) in
       let number : 13 ≡ n = cc in
       let detail : s.next ≡ d = cc in
       rw (← number, ← detail) (endless quiet unheld (leb-true (length events) s.loads done))
-  wait_refused (Load q x) after n d began e =
-      let (free_to_begin, same) = beginning_going job q x (land s) after began in
+  wait_refused (Some this) after n d began e =
+      let (free_to_begin, same) = beginning_going job this.slot this.symbol (land s) after began in
       let (unheld, quiet, done, is) = happened_refused (follow events) after n d e in
       held_and_failed false (rw (← same) at quiet) refl
 
@@ -157,16 +157,16 @@ module _ (job : Job) (events : List Event) (s : State) where
   unfolding tick
   tick_refused n d e = by_begun (asked (follow events) s) refl (then_refused (beginning job (asked (follow events) s) (land s)) _ n d e)
     where
-      by_begun : (b : MaybeLoad) → asked (follow events) s ≡ b
+      by_begun : (b : Option Load) → asked (follow events) s ≡ b
           → (beginning job b (land s) ≡ refused n d)
           ⊎ ((after : State)
           × (beginning job b (land s) ≡ going after)
           × (happened (happening_of after) ((follow events).done after) after ≡ refused n d))
           → Refuses job events s n d
-      by_begun NoLoad asks (inl now) = going_is_not_refused (land s) n d (unfold beginning in now)
-      by_begun (Load q x) asks (inl now) = event_refused q x n d asks now
-      by_begun NoLoad asks (inr (after, began, late)) = wait_refused NoLoad after n d began late
-      by_begun (Load q x) asks (inr (after, began, late)) = wait_refused (Load q x) after n d began late
+      by_begun None asks (inl now) = going_is_not_refused (land s) n d (unfold beginning in now)
+      by_begun (Some this) asks (inl now) = event_refused this.slot this.symbol n d asks now
+      by_begun None asks (inr (after, began, late)) = wait_refused None after n d began late
+      by_begun (Some this) asks (inr (after, began, late)) = wait_refused (Some this) after n d began late
 
   -- A row that is met refuses the tick.
   pub row_refuses : (n d : ℕ) → Refuses job events s n d → tick job (follow events) s ≡ refused n d
@@ -179,6 +179,6 @@ module _ (job : Job) (events : List Event) (s : State) where
       (λ f. rw (asks, quiet, lt-ltb q job.slots slot, f, there))
   row_refuses n d (no_symbol q x asks quiet slot mark) = rw (asks, quiet, lt-ltb q job.slots slot, eq-eqb x free mark)
   row_refuses n d (endless quiet unheld none) =
-      let nothing : due (drop s.loads events) s.tick ≡ NoLoad =
+      let nothing : due (drop s.loads events) s.tick ≡ None =
       unfold due in ap (λ (l : List Event). due l s.tick) (drop_of_length-le events none) in
       rw (nothing, unheld, le-leb (length events) s.loads none, endless_wait (land s).loading (awaited s) quiet)

@@ -9,17 +9,14 @@ use lib.ListN.{length, get_or, take}
 use lib.Seq.{get_or_at}
 use lib.Dec.{eqb}
 use borrow.Author.Tests.{eqb-true, eqb-false, le-leb, lt-leb, eq-eqb, ne_eqb}
-use Rattle.rules.specs.declared.MaybeLoad.{MaybeLoad}
-use Rattle.rules.specs.declared.MaybeLoad.TheVariants.{Load, NoLoad}
-use Rattle.rules.specs.declared.Brought.{Brought}
-use Rattle.rules.specs.declared.Brought.TheVariants.{BroughtBy, FromTheStart}
-use Rattle.rules.specs.declared.TakenOut.{TakenOut}
-use Rattle.rules.specs.declared.TakenOut.TheVariants.{TakenBy, NeverTaken}
+use Rattle.std.specs.Prelude.{Option, Some, None}
+use Rattle.rules.specs.declared.Load.{Load}
 use Rattle.rules.specs.declared.Parts.{Parts}
 use Rattle.rules.specs.declared.Account.{Account}
 use Rattle.rules.specs.Basics.{place, stands}
 use Rattle.rules.specs.Job.{Job}
-use Rattle.rules.specs.LoadList.{Event, event}
+use Rattle.rules.specs.declared.Event.{Event}
+use Rattle.rules.specs.LoadList.{event}
 use Rattle.rules.specs.Display.{State, drawn, going, land, begun_by, beginning, awaited, cause_of, happening_of, draw, wait, moved}
 use Rattle.rules.specs.Display.{asked, record_at, tick}
 use Rattle.rules.specs.Refusals.{follow, tick_of}
@@ -46,9 +43,9 @@ use Rattle.demands.proofs.Accounts.{false_too, brought_on, taken_on, all_brought
 --     none_yet      while another draw is the next one no wait counts
 --     since         while it is the next one each tick since the draw before it was a wait, counted by its cause
 pub record Telling (job : Job) (events : List Event) (i x now next loads : ℕ) (ticks : List ℕ)
-    (brought : Brought) (taken : TakenOut) (waits : Parts) : Type 0 where
-  pub brought_is : brought ≡ last_of (brings job events now x) BroughtBy FromTheStart loads
-  pub taken_is : taken ≡ last_of (takes job events now x) TakenBy NeverTaken loads
+    (brought : Option ℕ) (taken : Option ℕ) (waits : Parts) : Type 0 where
+  pub brought_is : brought ≡ last_of (brings job events now x) Some None loads
+  pub taken_is : taken ≡ last_of (takes job events now x) Some None loads
   pub none_yet : next < i → waits ≡ no_waits
   pub since : next ≡ i → waits ≡ parts_from job events x (from ticks i) (now - from ticks i)
 
@@ -76,11 +73,11 @@ pub data Told (job : Job) (events : List Event) (i x : ℕ) (s : State) (a : Acc
       → Told job events i x s a
 
 -- What begins where it is not refused.
-begun_is : (job : Job) (m : MaybeLoad) (s b : State) → beginning job m s ≡ going b → (begun_by job m s ≡ b) × (s.next ≡ b.next)
+begun_is : (job : Job) (m : Option Load) (s b : State) → beginning job m s ≡ going b → (begun_by job m s ≡ b) × (s.next ≡ b.next)
 unfolding beginning
-begun_is job NoLoad s b e = let same : s ≡ b = cc in (same, ap (λ (z : State). z.next) same)
-begun_is job (Load q y) s b e =
-    let (none, same) = beginning_going job q y s b e in (same, ap (λ (z : State). z.next) same)
+begun_is job None s b e = let same : s ≡ b = cc in (same, ap (λ (z : State). z.next) same)
+begun_is job (Some this) s b e =
+    let (none, same) = beginning_going job this.slot this.symbol s b e in (same, ap (λ (z : State). z.next) same)
 
 -- The tick after a draw is the first at which the next one is looked for.
 from_new : (ticks : List ℕ) (t n : ℕ) → length ticks ≡ n → from (ticks ++ (t ∷ [])) (n + 1) ≡ t + 1
@@ -101,35 +98,35 @@ no_more job events x first n e = rw e
 
 module _ (job : Job) (events : List Event) (some_load_time : 1 ≤ job.load_time) (i x : ℕ) where
   -- An event that begins has brought nothing yet, and takes out what its slot holds.
-  telling_begins : (m : MaybeLoad) (s b : State) (a : Account) → (follow events).asks s ≡ m → beginning job m s ≡ going b
+  telling_begins : (m : Option Load) (s b : State) (a : Account) → (follow events).asks s ≡ m → beginning job m s ≡ going b
       → HoldingLanded job events s → TellingWithin job events i x s a
       → TellingWithin job events i x b
       (record { brought = a.brought; taken = taken_in x m s.slots s.loads a.taken; waits = a.waits })
   unfolding beginning
-  telling_begins NoLoad s b a asks began g h =
+  telling_begins None s b a asks began g h =
       let same : s ≡ b = cc in subst (λ (z : State). TellingWithin job events i x z a) same h
-  telling_begins (Load q y) s b a asks began g h =
-      let (none, same) = beginning_going job q y s b began in
-      let (quiet, slot, symbol, nowhere) = load_taken job q y s none in
+  telling_begins (Some this) s b a asks began g h =
+      let (none, same) = beginning_going job this.slot this.symbol s b began in
+      let (quiet, slot, symbol, nowhere) = load_taken job this.slot this.symbol s none in
       let along : AlongLanded job events s = g.0.1 in
-      let is : nth_event events s.loads ≡ event s.tick q y = event_due events s.loads s.tick q y asks in
+      let is : nth_event events s.loads ≡ event s.tick this.slot this.symbol = event_due events s.loads s.tick this.slot this.symbol asks in
       let not_yet : brings job events s.tick x s.loads ≡ false =
-      rw is (false_too (eqb y x) _ (lt-leb (s.tick + job.load_time) s.tick (omega arith))) in
-      let there : get_or s.slots q 0 ≡ held job (take s.loads events) s.tick q = rw (← along.so_far) (g.1 q slot) in
-      let out : takes job events s.tick x s.loads ≡ eqb (get_or s.slots q 0) x =
+      rw is (false_too (eqb this.symbol x) _ (lt-leb (s.tick + job.load_time) s.tick (omega arith))) in
+      let there : get_or s.slots this.slot 0 ≡ held job (take s.loads events) s.tick this.slot = rw (← along.so_far) (g.1 this.slot slot) in
+      let out : takes job events s.tick x s.loads ≡ eqb (get_or s.slots this.slot 0) x =
       rw (is, le-leb s.tick s.tick (omega arith), there) in
       subst
       (λ (z : State).
       TellingWithin job events i x z
       (record {
         brought = a.brought;
-        taken = cond (eqb (get_or s.slots q 0) x) (TakenBy s.loads) a.taken;
+        taken = cond (eqb (get_or s.slots this.slot 0) x) (Some s.loads) a.taken;
         waits = a.waits;
       }))
       same
       (record {
-        brought_is = rw (one_further BroughtBy FromTheStart (brings job events s.tick x) s.loads, not_yet) h.brought_is;
-        taken_is = rw (one_further TakenBy NeverTaken (takes job events s.tick x) s.loads, out, h.taken_is);
+        brought_is = rw (one_further Some None (brings job events s.tick x) s.loads, not_yet) h.brought_is;
+        taken_is = rw (one_further Some None (takes job events s.tick x) s.loads, out, h.taken_is);
         none_yet = h.none_yet;
         since = h.since;
       })

@@ -9,9 +9,11 @@ use mathlib.Core.Logic.{◌↔◌}
 use lib.ListN.{length}
 use borrow.Author.Tests.{le-ltb}
 use Rattle.rules.specs.Order.{Verdict, clear, met, first_of}
-use Rattle.rules.specs.LoadList.{Event, head_size, event_size, events_in, events_of, events_bytes, list_bytes}
+use Rattle.rules.specs.declared.Event.{Event}
+use Rattle.rules.specs.LoadList.{head_size, event_size, events_in, events_of, events_bytes, list_bytes}
 use Rattle.rules.specs.Refusals.{bad_list, first_bad_tick, lent}
-use Rattle.rules.specs.Text.{text_of, TextReading, lines, bad_line, read_lines, lines_of, events_read, write_tests, read_tests, Writing, wrote, refused_with, writing}
+use Rattle.rules.specs.Text.{text_of, TextReading, lines, bad_line, read_lines, lines_of, events_read, write_tests, read_tests, Writing, wrote}
+use Rattle.rules.specs.Text.{refused_with, writing}
 use Rattle.rules.specs.Text.{write_text, read_text, written_of, bytes_of}
 use Rattle.laws.proofs.Verdicts.{has, never_met}
 use Rattle.laws.proofs.RoundTrip.{length-list, read_back}

@@ -7,7 +7,8 @@ use mathlib.Core.List.{List, [], ◌∷◌}
 use lib.ListN.{length, get_or, drop, length-append, get_or-eq_default}
 use lib.Dec.{ltb}
 use borrow.Author.Tests.{ltb-true, ltb-false}
-use Rattle.rules.specs.LoadList.{Event, event, most_events, last_tick, head_size, event_size, count_of, events_in, events_of}
+use Rattle.rules.specs.declared.Event.{Event}
+use Rattle.rules.specs.LoadList.{event, most_events, last_tick, head_size, event_size, count_of, events_in, events_of}
 use Rattle.rules.specs.Refusals.{bad_list, first_bad_tick}
 use Rattle.rules.specs.Text.{last_slot, last_symbol, decimal, line_of, text_of}
 use Rattle.laws.proofs.Cases.{by_test, neither}
@@ -58,13 +59,13 @@ line_size t q x tick slot symbol =
 pub lines_size : (least : ℕ) (l : List Event) → AllFit l → length l ≤ first_bad_tick least l → length (text_of l) ≤ 18 * length l
 unfolding text_of first_bad_tick
 lines_size least [] fit ordered = omega arith
-lines_size least (event t q x ∷ l) fit ordered =
-    by_test (ltb last_tick t || ltb t least)
+lines_size least (this ∷ l) fit ordered =
+    by_test (ltb last_tick this.tick || ltb this.tick least)
     (λ e. let none : suc (length l) ≤ 0 = rw e at ordered in absurd (omega arith))
     (λ e.
-    let later : suc (length l) ≤ suc (first_bad_tick (t + 1) l) = rw e at ordered in
-    let this : Fitting (event t q x) = fit 0 (omega arith) in
-    let tick : t ≤ last_tick = ltb-false last_tick t (neither (ltb last_tick t) (ltb t least) e).0 in
-    let first : length (line_of (event t q x)) ≤ 18 = line_size t q x tick this.slot this.symbol in
-    let rest : length (text_of l) ≤ 18 * length l = lines_size (t + 1) l (fit_later (event t q x) l fit) (omega arith) in
-    omega (arith, length-append (line_of (event t q x)) (text_of l)))
+    let later : suc (length l) ≤ suc (first_bad_tick (this.tick + 1) l) = rw e at ordered in
+    let fits : Fitting this = fit 0 (omega arith) in
+    let tick : this.tick ≤ last_tick = ltb-false last_tick this.tick (neither (ltb last_tick this.tick) (ltb this.tick least) e).0 in
+    let first : length (line_of this) ≤ 18 = line_size this.tick this.slot this.symbol tick fits.slot fits.symbol in
+    let rest : length (text_of l) ≤ 18 * length l = lines_size (this.tick + 1) l (fit_later this l fit) (omega arith) in
+    omega (arith, length-append (line_of this) (text_of l)))

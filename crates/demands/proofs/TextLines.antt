@@ -9,7 +9,8 @@ use lib.ListN.{length, get_or, take, drop, length-append, take-append-drop, get_
 use lib.Seq.{append_snoc, drop-append_seam, drop-append-add, drop-drop, drop-cons, get_or-append_seam, length-take-le}
 use lib.Dec.{eqb, ltb, leb}
 use borrow.Author.Tests.{ltb-true, ltb-false, le-leb, leb-true, eqb-true, eq-eqb, ne_eqb, le-ltb}
-use Rattle.rules.specs.LoadList.{Event, event}
+use Rattle.rules.specs.declared.Event.{Event}
+use Rattle.rules.specs.LoadList.{event}
 use Rattle.rules.specs.Text.{blank, line_feed, last_slot, last_symbol, decimal, field, line_of, is_digit, digit_count, number_from, FieldReading, found, none}
 use Rattle.rules.specs.Text.{well_written, read_field, line, bad, with_symbol, with_slot, with_tick, read_line}
 use Rattle.laws.proofs.Cases.{by_test}
@@ -145,24 +146,24 @@ length_three a b c = simp length-append
 
 -- The line of an event that fits, in front of a text, is read as that event.
 pub line_read : (e : Event) (rest : List ℕ) → Fitting e → read_line (line_of e ++ rest) ≡ line e (length (line_of e))
-line_read (event t q x) rest fits =
-    let tick : List ℕ = field t blank in
-    let slot : List ℕ = field q blank in
-    let symbol : List ℕ = field x line_feed in
-    let shape : line_of (event t q x) ++ rest ≡ tick ++ (slot ++ (symbol ++ rest)) =
+line_read this rest fits =
+    let tick : List ℕ = field this.tick blank in
+    let slot : List ℕ = field this.slot blank in
+    let symbol : List ℕ = field this.symbol line_feed in
+    let shape : line_of this ++ rest ≡ tick ++ (slot ++ (symbol ++ rest)) =
     append_assoc (tick ++ slot) symbol rest ∙ append_assoc tick slot (symbol ++ rest) in
     let second : drop (length tick) (tick ++ (slot ++ (symbol ++ rest))) ≡ slot ++ (symbol ++ rest) =
     drop-append_seam tick (slot ++ (symbol ++ rest)) in
     let third : drop (length tick + length slot) (tick ++ (slot ++ (symbol ++ rest))) ≡ symbol ++ rest =
     drop-append-add tick (slot ++ (symbol ++ rest)) (length slot) ∙ drop-append_seam slot (symbol ++ rest) in
     ap read_line shape
-    ∙ line_is (tick ++ (slot ++ (symbol ++ rest))) t q x (length tick) (length slot) (length symbol)
-    (field_read t blank (slot ++ (symbol ++ rest)) refl)
-    (ap (read_field blank) second ∙ field_read q blank (symbol ++ rest) refl)
-    (ap (read_field line_feed) third ∙ field_read x line_feed rest refl)
+    ∙ line_is (tick ++ (slot ++ (symbol ++ rest))) this.tick this.slot this.symbol (length tick) (length slot) (length symbol)
+    (field_read this.tick blank (slot ++ (symbol ++ rest)) refl)
+    (ap (read_field blank) second ∙ field_read this.slot blank (symbol ++ rest) refl)
+    (ap (read_field line_feed) third ∙ field_read this.symbol line_feed rest refl)
     fits.slot
     fits.symbol
-    ∙ ap (line (event t q x)) (length_three tick slot symbol)
+    ∙ ap (line this) (length_three tick slot symbol)
 
 -- ---- What is read is what the writer makes
 

@@ -6,8 +6,10 @@ use mathlib.Core.List.{List, [], ◌∷◌, ◌++◌, append-nil, append_assoc}
 use mathlib.Core.Logic.{◌⊎◌, inl, inr}
 use lib.ListN.{length, drop}
 use lib.Seq.{drop-append_seam}
-use Rattle.rules.specs.LoadList.{Event, most_events}
-use Rattle.rules.specs.Text.{line_of, text_of, digit_count, LineReading, line, bad, read_line, TextReading, lines, bad_line, add_line, first_line, read_lines, lines_of}
+use Rattle.rules.specs.declared.Event.{Event}
+use Rattle.rules.specs.LoadList.{most_events}
+use Rattle.rules.specs.Text.{line_of, text_of, digit_count, LineReading, line, bad, read_line, TextReading, lines, bad_line, add_line, first_line}
+use Rattle.rules.specs.Text.{read_lines, lines_of}
 use Rattle.demands.specs.TextWords.{Fitting, AllFit, InShape, NoLine, FirstBadLine}
 use Rattle.demands.proofs.TextLines.{line_read, Made, line_back}
 

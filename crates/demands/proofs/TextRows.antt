@@ -8,7 +8,8 @@ use lib.ListN.{length}
 use lib.Dec.{ltb}
 use borrow.Author.Tests.{ltb-true, ltb-false, lt-ltb, le-ltb}
 use Rattle.rules.specs.Order.{Test, test, Verdict, clear, met, first_of}
-use Rattle.rules.specs.LoadList.{Event, head_size, event_size, events_of, list_bytes}
+use Rattle.rules.specs.declared.Event.{Event}
+use Rattle.rules.specs.LoadList.{head_size, event_size, events_of, list_bytes}
 use Rattle.rules.specs.Refusals.{bad_list, first_bad_tick, tick_test}
 use Rattle.rules.specs.Text.{text_of, TextReading, lines, bad_line, lines_of, events_read, line_test, room_test, write_tests, read_tests, wrote}
 use Rattle.rules.specs.Text.{refused_with, writing, write_text, read_text}

@@ -8,12 +8,12 @@ use lib.ListN.{length, get_or, drop}
 use lib.Seq.{get_or-drop}
 use lib.Dec.{ltb, leb}
 use borrow.Author.Tests.{ltb-true, lt-ltb, leb-true, le-leb}
-use Rattle.rules.specs.declared.MaybeLoad.{MaybeLoad}
-use Rattle.rules.specs.declared.MaybeLoad.TheVariants.{Load, NoLoad}
+use Rattle.std.specs.Prelude.{Option, Some, None}
+use Rattle.rules.specs.declared.Load.{Load}
 use Rattle.rules.specs.declared.Loading.{Loading}
 use Rattle.rules.specs.Basics.{place, stands}
 use Rattle.rules.specs.Job.{Job, free}
-use Rattle.rules.specs.Display.{State, idle, awaited}
+use Rattle.rules.specs.Display.{load, State, idle, awaited}
 use Rattle.rules.specs.Plans.{rank, furthest, ahead, behind, missing, aggressive, on_demand, opt_slot, opt, lru}
 use Rattle.laws.proofs.Cases.{by_test}
 use Rattle.laws.proofs.Jobs.{Proper}
@@ -31,19 +31,19 @@ use Rattle.demands.proofs.DrawWords.{later_one_way, older_one_way, free_first_on
 use Rattle.demands.proofs.DrawWords.{ahead_tells, behind_tells, both_tell}
 
 -- What is asked for agrees with words: a load that is asked for fits them, and a load that fits them is asked for.
-pub record Agrees (fits : ℕ → ℕ → Type 0) (b : MaybeLoad) : Type 0 where
-  pub says : (q x : ℕ) → b ≡ Load q x → fits q x
-  pub only : (q x : ℕ) → fits q x → b ≡ Load q x
+pub record Agrees (fits : ℕ → ℕ → Type 0) (b : Option Load) : Type 0 where
+  pub says : (q x : ℕ) → b ≡ Some (load q x) → fits q x
+  pub only : (q x : ℕ) → fits q x → b ≡ Some (load q x)
 
 -- Then what is asked for is what begins by the words, and nothing else is.
-pub begins_asked : (fits : ℕ → ℕ → Type 0) (b : MaybeLoad) → Agrees fits b → Begins fits b
-begins_asked fits NoLoad a = none (λ q x f. let e = a.only q x f in let z : ◌≡◌ {A = ℕ} 0 1 = cc in omega arith)
-begins_asked fits (Load q x) a = begins (a.says q x refl)
+pub begins_asked : (fits : ℕ → ℕ → Type 0) (b : Option Load) → Agrees fits b → Begins fits b
+begins_asked fits None a = none (λ q x f. let e = a.only q x f in let z : ◌≡◌ {A = ℕ} 0 1 = cc in omega arith)
+begins_asked fits (Some this) a = begins (a.says this.slot this.symbol refl)
 
-pub begins_only : (fits : ℕ → ℕ → Type 0) (b c : MaybeLoad) → Agrees fits b → Begins fits c → c ≡ b
+pub begins_only : (fits : ℕ → ℕ → Type 0) (b c : Option Load) → Agrees fits b → Begins fits c → c ≡ b
 begins_only fits b c a (begins {q} {x} f) = sym (a.only q x f)
-begins_only fits NoLoad c a (none why) = refl
-begins_only fits (Load q x) c a (none why) = absurd (why q x (a.says q x refl))
+begins_only fits None c a (none why) = refl
+begins_only fits (Some this) c a (none why) = absurd (why this.slot this.symbol (a.says this.slot this.symbol refl))
 
 -- ---- Which slot, in a sane state
 
@@ -180,7 +180,7 @@ module _ (job : Job) (proper : Proper job) (s : State) (g : SaneState job s) (mo
   there = drawn_there job s.next s.rest s.slots s.loading g
 
   -- What it asks for fits the words.
-  aggressive_says : (q x : ℕ) → (aggressive job).asks s ≡ Load q x → Aggressive job s q x
+  aggressive_says : (q x : ℕ) → (aggressive job).asks s ≡ Some (load q x) → Aggressive job s q x
   aggressive_says q x e =
       let (test, to, symbol) =
       asked_load (idle s.loading && ltb first (length s.rest) && leb first (rank (ahead s) out)) chosen (get_or s.rest first 0) q x e in
@@ -204,7 +204,7 @@ module _ (job : Job) (proper : Proper job) (s : State) (g : SaneState job s) (mo
       }
 
   -- What fits the words is what it asks for.
-  aggressive_only : (q x : ℕ) → Aggressive job s q x → (aggressive job).asks s ≡ Load q x
+  aggressive_only : (q x : ℕ) → Aggressive job s q x → (aggressive job).asks s ≡ Some (load q x)
   aggressive_only q x f =
       let same : s.next + first ≡ f.p =
       first_missing job s.next s.rest s.slots s.loading g f.p x f.remains f.missing f.nowhere f.first in

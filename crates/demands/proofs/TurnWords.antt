@@ -7,11 +7,11 @@ use mathlib.Core.List.{List, ◌∷◌, map}
 use lib.ListN.{length, get_or, drop, length-map, length-drop, get_or-map}
 use lib.Seq.{get_or-drop}
 use borrow.Author.Tests.{le-leb}
-use Rattle.rules.specs.declared.MaybeLoad.TheVariants.{Load}
+use Rattle.std.specs.Prelude.{Some}
 use Rattle.rules.specs.Basics.{place}
 use Rattle.rules.specs.Job.{Job}
 use Rattle.rules.specs.LoadList.{last_tick}
-use Rattle.rules.specs.Display.{State, Rule, Loaded, loaded, going, start, idle, run}
+use Rattle.rules.specs.Display.{load, State, Rule, Loaded, loaded, going, start, idle, run}
 use Rattle.rules.specs.Plans.{earliest, opt, run_plan, begun_in, rule_of}
 use Rattle.laws.proofs.Jobs.{Proper}
 use Rattle.laws.proofs.Rows.{map_snoc, Each, each_snoc}
@@ -63,7 +63,7 @@ module _ (job : Job) where
 
 -- The first of the loads still to make is asked for where what goes out is not drawn before its miss.
 in_turn : (left : List Loaded) (s : State) (t m q x : ℕ) (later : List Loaded) → left ≡ loaded t m q x ∷ later → idle s.loading ≡ true
-    → m ≤ s.next + place (get_or s.slots q 0) s.rest → earliest left s ≡ Load q x
+    → m ≤ s.next + place (get_or s.slots q 0) s.rest → earliest left s ≡ Some (load q x)
 in_turn left s t m q x later e quiet far =
     ap (λ (l : List Loaded). earliest l s) e ∙ rw (quiet, le-leb m (s.next + place (get_or s.slots q 0) s.rest) far)
 
@@ -87,7 +87,7 @@ module _ (job : Job) (proper : Proper job) where
   begun_is = ap begun_in done.ran
 
   -- What conservative asks for fits the words.
-  conservative_says : (s : State) → SaneState job s → (q x : ℕ) → (rule_of job 1).asks s ≡ Load q x → Conservative job s q x
+  conservative_says : (s : State) → SaneState job s → (q x : ℕ) → (rule_of job 1).asks s ≡ Some (load q x) → Conservative job s q x
   conservative_says s g q x e =
       let a : Asked (drop s.loads (begun_in (run_plan job (opt job)))) s q x = asked (drop s.loads (begun_in (run_plan job (opt job)))) s q x e in
       record {
@@ -102,7 +102,7 @@ module _ (job : Job) (proper : Proper job) where
       }
 
   -- What fits the words is what it asks for.
-  conservative_only : (s : State) → SaneState job s → (q x : ℕ) → Conservative job s q x → (rule_of job 1).asks s ≡ Load q x
+  conservative_only : (s : State) → SaneState job s → (q x : ℕ) → Conservative job s q x → (rule_of job 1).asks s ≡ Some (load q x)
   conservative_only s g q x f =
       let same : f.last ≡ done.last = opt_only f.last f.opt in
       let head : drop s.loads done.last.begun ≡ loaded f.t f.miss q x ∷ f.later =

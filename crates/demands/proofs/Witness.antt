@@ -11,7 +11,8 @@ use lib.Dec.{ltb}
 use borrow.Author.Tests.{ltb-true, ltb-false}
 use Rattle.rules.specs.Basics.{place, stands}
 use Rattle.rules.specs.Job.{Call, Job, draws_of, job_of}
-use Rattle.rules.specs.LoadList.{Event, events_of}
+use Rattle.rules.specs.declared.Event.{Event}
+use Rattle.rules.specs.LoadList.{events_of}
 use Rattle.rules.specs.Display.{State, drawn, going, start, awaited, run}
 use Rattle.rules.specs.Refusals.{follow, tick_of, slot_of, ticks_of, slots_of, answer_of, most_ticks, checked}
 use Rattle.laws.proofs.Cases.{by_test}

@@ -12,7 +12,8 @@ use Rattle.rules.specs.declared.Shape.{Shape}
 use Rattle.rules.specs.Basics.{place, stands, number32}
 use Rattle.rules.specs.Order.{Test}
 use Rattle.rules.specs.Job.{Call, free, most_slots, most_load_time, most_draws, shape_of, starting_symbols, drawn_symbols, draws_of, job_of}
-use Rattle.rules.specs.LoadList.{Event, event, most_events, last_tick, head_size, event_size, count_of, events_of}
+use Rattle.rules.specs.declared.Event.{Event}
+use Rattle.rules.specs.LoadList.{event, most_events, last_tick, head_size, event_size, count_of, events_of}
 use Rattle.rules.specs.Display.{Run, going, refused, finished}
 use Rattle.rules.specs.Plans.{rule_of, run_plan}
 use Rattle.rules.specs.Refusals.{bad_job_length, bad_limits, doubled, bad_symbols, job_tests, bad_rounds, call_tests, bad_list, first_bad_tick, short_check}
@@ -242,27 +243,27 @@ one_up least t q x l (suc i) w = w
 found_wrong : (least : ℕ) (events : List Event) → first_bad_tick least events < length events → Wrong least events (first_bad_tick least events)
 unfolding first_bad_tick
 found_wrong least [] h = absurd (omega arith)
-found_wrong least (event t q x ∷ l) h =
-    by_test (ltb last_tick t || ltb t least)
-    (λ e. rw e (either (ltb last_tick t) (ltb t least) e (λ f. inl (ltb-true last_tick t f)) (λ f. inr (ltb-true t least f))))
+found_wrong least (this ∷ l) h =
+    by_test (ltb last_tick this.tick || ltb this.tick least)
+    (λ e. rw e (either (ltb last_tick this.tick) (ltb this.tick least) e (λ f. inl (ltb-true last_tick this.tick f)) (λ f. inr (ltb-true this.tick least f))))
     (λ e.
-    let inside : suc (first_bad_tick (t + 1) l) < suc (length l) = rw e at h in
-    rw e (one_up least t q x l (first_bad_tick (t + 1) l) (found_wrong (t + 1) l (omega arith))))
+    let inside : suc (first_bad_tick (this.tick + 1) l) < suc (length l) = rw e at h in
+    rw e (one_up least this.tick this.slot this.symbol l (first_bad_tick (this.tick + 1) l) (found_wrong (this.tick + 1) l (omega arith))))
 
 -- and none before it.
 none_before : (least : ℕ) (events : List Event) (i : ℕ) → i < first_bad_tick least events → Wrong least events i → ⊥
 unfolding first_bad_tick
 none_before least [] i h w = omega arith
-none_before least (event t q x ∷ l) i h w =
-    by_test (ltb last_tick t || ltb t least)
+none_before least (this ∷ l) i h w =
+    by_test (ltb last_tick this.tick || ltb this.tick least)
     (λ e. let none : i < 0 = rw e at h in omega arith)
-    (λ e. behind i (rw e at h) (neither (ltb last_tick t) (ltb t least) e) w (λ j. none_before (t + 1) l j))
+    (λ e. behind i (rw e at h) (neither (ltb last_tick this.tick) (ltb this.tick least) e) w (λ j. none_before (this.tick + 1) l j))
   where
-    behind : (i : ℕ) → i < suc (first_bad_tick (t + 1) l) → (ltb last_tick t ≡ false) × (ltb t least ≡ false) → Wrong least (event t q x ∷ l) i
-        → ((j : ℕ) → j < first_bad_tick (t + 1) l → Wrong (t + 1) l j → ⊥) → ⊥
-    behind zero h fine (inl over) later = let limit : t ≤ last_tick = ltb-false last_tick t fine.0 in omega arith
-    behind zero h fine (inr under) later = let least_tick : least ≤ t = ltb-false t least fine.1 in omega arith
-    behind (suc j) h fine w later = later j (omega arith) (one_down least t q x l j w)
+    behind : (i : ℕ) → i < suc (first_bad_tick (this.tick + 1) l) → (ltb last_tick this.tick ≡ false) × (ltb this.tick least ≡ false) → Wrong least (this ∷ l) i
+        → ((j : ℕ) → j < first_bad_tick (this.tick + 1) l → Wrong (this.tick + 1) l j → ⊥) → ⊥
+    behind zero h fine (inl over) later = let limit : this.tick ≤ last_tick = ltb-false last_tick this.tick fine.0 in omega arith
+    behind zero h fine (inr under) later = let least_tick : least ≤ this.tick = ltb-false this.tick least fine.1 in omega arith
+    behind (suc j) h fine w later = later j (omega arith) (one_down least this.tick this.slot this.symbol l j w)
 
 -- From tick 0 on that is what row 9 says,
 wrong_so : (events : List Event) (i : ℕ) → Wrong 0 events i → OutOfOrder events i

@@ -3,13 +3,13 @@ use Rattle.std.specs.Prelude.{ℕ, ◌+◌, cond, List, [], ◌∷◌, eqb, leb}
 use Rattle.rules.specs.declared.Cause.{Cause}
 use Rattle.rules.specs.declared.Cause.TheVariants.{Awaited, Another, Nothing}
 use Rattle.rules.specs.Job.{Job}
-use Rattle.rules.specs.LoadList.{Event, event}
+use Rattle.rules.specs.declared.Event.{Event}
 use Rattle.demands.specs.Held.{LastLoad, none, last, or_else}
 
 -- The last event of a list whose tick is t or earlier, into whatever slot.
 unfoldable pub last_begun : ℕ → List Event → LastLoad
 last_begun t [] = none
-last_begun t (event u r x ∷ later) = or_else (last_begun t later) (cond (leb u t) (last u x) none)
+last_begun t (e ∷ later) = or_else (last_begun t later) (cond (leb e.tick t) (last e.tick e.symbol) none)
 
 -- What that says of a wait for symbol x at tick t: nothing is loading where no load has begun, or the last one began F ticks ago or
 -- more; else the symbol itself is loading, or another.

@@ -3,7 +3,8 @@
 use Rattle.std.specs.Prelude.{ℕ, zero, suc, ◌+◌, ◌-◌, ◌<◌, ◌≤◌, ◌≡◌, refl, cond, ◌&&◌, List, [], ◌∷◌, map, length, get_or, eqb, ltb, leb}
 use Rattle.rules.specs.declared.Answer.{Answer}
 use Rattle.rules.specs.Job.{Job, free}
-use Rattle.rules.specs.LoadList.{Event, event}
+use Rattle.rules.specs.declared.Event.{Event}
+use Rattle.rules.specs.LoadList.{event}
 use Rattle.rules.specs.Plans.{greatest}
 
 -- The last load into a slot: there was none, or it began at a tick and brings a symbol.
@@ -19,7 +20,7 @@ or_else (last u x) before = last u x
 -- The last event of a list on slot q whose tick is t or earlier. What comes later in the list counts before what comes earlier.
 unfoldable pub last_load : ℕ → ℕ → List Event → LastLoad
 last_load q t [] = none
-last_load q t (event u r x ∷ later) = or_else (last_load q t later) (cond (eqb r q && leb u t) (last u x) none)
+last_load q t (e ∷ later) = or_else (last_load q t later) (cond (eqb e.slot q && leb e.tick t) (last e.tick e.symbol) none)
 
 -- What that leaves in the slot at tick t: where there was no load, its starting symbol; where the load began F ticks ago or more, the
 -- load's symbol; where it began since, nothing.
@@ -71,7 +72,7 @@ pub record Sheet (job : Job) (events : List Event) (ticks slots : List ℕ) (ans
 -- How many loads of a list have ended on a sheet that took this many ticks: a load begun at tick t ends in tick t + F, if the sheet has that tick.
 unfoldable pub ended_by : ℕ → ℕ → List Event → ℕ
 ended_by time elapsed [] = 0
-ended_by time elapsed (event t q x ∷ later) = cond (ltb (t + time) elapsed) 1 0 + ended_by time elapsed later
+ended_by time elapsed (e ∷ later) = cond (ltb (e.tick + time) elapsed) 1 0 + ended_by time elapsed later
 
 -- Row e of document 01: slot 1 of job a holds symbol 2, then nothing from tick 2 on, when the load begins, and symbol 3 from tick 6 on.
 row_e : map (λ t. held (record { slots = 2; load_time = 4; starting = 1 ∷ 2 ∷ []; draws = 1 ∷ 2 ∷ 3 ∷ 1 ∷ [] }) (event 2 1 3 ∷ []) t 1)

@@ -1,11 +1,10 @@
 -- The four plans as relations over what the slots hold and what is drawn where, with no rank and no search. (Document 01, "The four plans",
 -- and document 02, Four; the quotations are from docs/RULES.md.) A reader who does not trust `rank`, `furthest` and `earliest_at` can trust
 -- the plans by this file.
-use Rattle.std.specs.Prelude.{ℕ, zero, suc, ◌+◌, ◌<◌, ◌≤◌, ◌≡◌, true, List, [], ◌∷◌, length, get_or, drop}
-use Rattle.rules.specs.declared.MaybeLoad.{MaybeLoad}
-use Rattle.rules.specs.declared.MaybeLoad.TheVariants.{Load, NoLoad}
+use Rattle.std.specs.Prelude.{ℕ, zero, suc, ◌+◌, ◌<◌, ◌≤◌, ◌≡◌, true, List, [], ◌∷◌, length, get_or, drop, Option, Some, None}
+use Rattle.rules.specs.declared.Load.{Load}
 use Rattle.rules.specs.Job.{Job, free}
-use Rattle.rules.specs.Display.{State, Rule, Loaded, loaded, going, start, loadable, land, idle, beginning, happening_of, moved, asked, run}
+use Rattle.rules.specs.Display.{load, State, Rule, Loaded, loaded, going, start, loadable, land, idle, beginning, happening_of, moved, asked, run}
 
 -- ---- Draws by their places
 
@@ -141,15 +140,15 @@ abbrev pub Lru : Job → State → ℕ → ℕ → Type 0
 Lru job = OnDemand job OldestSlot
 
 -- What begins in a tick: a load that fits the words, and none where none fits.
-pub data Begins (fits : ℕ → ℕ → Type 0) : MaybeLoad → Type 0 where
-  begins : {q x : ℕ} → fits q x → Begins fits (Load q x)
-  none : ((q x : ℕ) → fits q x → ⊥) → Begins fits NoLoad
+pub data Begins (fits : ℕ → ℕ → Type 0) : Option Load → Type 0 where
+  begins : {q x : ℕ} → fits q x → Begins fits (Some (load q x))
+  none : ((q x : ℕ) → fits q x → ⊥) → Begins fits None
 
 -- The display by words, from a state to its last: in each tick, as long as draws remain, what begins is as the words say. The other steps of
 -- a tick are the display's.
 pub data ByWords (job : Job) (words : State → ℕ → ℕ → Type 0) : State → State → Type 0 where
   at_end : {s last : State} → s.rest ≡ [] → s ≡ last → ByWords job words s last
-  in_tick : {s after last : State} {b : MaybeLoad} → 0 < length s.rest → Begins (words (land s)) b → beginning job b (land s) ≡ going after
+  in_tick : {s after last : State} {b : Option Load} → 0 < length s.rest → Begins (words (land s)) b → beginning job b (land s) ≡ going after
       → ByWords job words (moved (happening_of after) after) last → ByWords job words s last
 
 -- 1, conservative: "the loads of opt, into opt's slots and in opt's order", being those that opt begins by its own words. "Each begins at the

@@ -1,13 +1,12 @@
 -- Why a draw waited, said from the load list alone, with no run of the display. (Document 02, Six) A reader who does not trust the account
 -- that a run gives can trust it by this file.
-use Rattle.std.specs.Prelude.{ℕ, zero, suc, ◌+◌, ◌-◌, ◌<◌, ◌≡◌, refl, Bool, cond, ◌&&◌, List, [], ◌∷◌, length, get_or, take, eqb, leb}
+use Rattle.std.specs.Prelude.{ℕ, zero, suc, ◌+◌, ◌-◌, ◌<◌, ◌≡◌, refl, Bool, cond, ◌&&◌, List, [], ◌∷◌, length, get_or, take, eqb, leb, Some, None}
 use Rattle.rules.specs.declared.Answer.{Answer}
-use Rattle.rules.specs.declared.Brought.TheVariants.{BroughtBy, FromTheStart}
-use Rattle.rules.specs.declared.TakenOut.TheVariants.{TakenBy, NeverTaken}
 use Rattle.rules.specs.declared.Parts.{Parts}
 use Rattle.rules.specs.declared.Account.{Account}
 use Rattle.rules.specs.Job.{Call, Job, most_draws, draws_of, job_of}
-use Rattle.rules.specs.LoadList.{Event, event, events_of}
+use Rattle.rules.specs.declared.Event.{Event}
+use Rattle.rules.specs.LoadList.{event, events_of}
 use Rattle.rules.specs.Why.{no_waits, more_waits}
 use Rattle.demands.specs.Held.{last_load, held, from}
 use Rattle.demands.specs.Fair.{event_tick, event_slot, event_symbol, nth_event, Right}
@@ -37,8 +36,8 @@ parts_from job events x first (suc n) = more_waits 1 (cause_at job events (first
 abbrev pub account_by : Job → List Event → ℕ → ℕ → ℕ → Account
 account_by job events x first t =
     record {
-      brought = last_of (brings job events t x) BroughtBy FromTheStart (length events);
-      taken = last_of (takes job events t x) TakenBy NeverTaken (length events);
+      brought = last_of (brings job events t x) Some None (length events);
+      taken = last_of (takes job events t x) Some None (length events);
       waits = parts_from job events x first (t - first);
     }
 
@@ -56,11 +55,11 @@ pub record Explains (asked : Call) (list : List ℕ) (draw : ℕ) (account : Acc
 -- Row e of document 01: its third draw, of symbol 3, is looked for from tick 2 on and made at tick 6. Event 0 has brought it, nothing took it
 -- out, and all four waits were for its own load. Symbol 2 was taken out by that event.
 row_e : account_by (record { slots = 2; load_time = 4; starting = 1 ∷ 2 ∷ []; draws = 1 ∷ 2 ∷ 3 ∷ 1 ∷ [] }) (event 2 1 3 ∷ []) 3 2 6
-    ≡ record { brought = BroughtBy 0; taken = NeverTaken; waits = record { own = 4; another = 0; nothing = 0 } }
+    ≡ record { brought = Some 0; taken = None; waits = record { own = 4; another = 0; nothing = 0 } }
 unfolding last_of parts_from last_load last_begun
 row_e = refl
 
-row_e_taken : last_of (takes (record { slots = 2; load_time = 4; starting = 1 ∷ 2 ∷ []; draws = [] }) (event 2 1 3 ∷ []) 6 2) TakenBy NeverTaken 1
-    ≡ TakenBy 0
+row_e_taken : last_of (takes (record { slots = 2; load_time = 4; starting = 1 ∷ 2 ∷ []; draws = [] }) (event 2 1 3 ∷ []) 6 2) Some None 1
+    ≡ Some 0
 unfolding last_of last_load
 row_e_taken = refl

@@ -1,14 +1,14 @@
 -- The table of refusals in its words, row by row and in its order, for a plan and for a check: which number is given, and with which detail.
 -- To be held beside "Refusal numbers" of document 01; row 17 is from document 02, Five. Rows 1 to 9 speak of bytes; rows 10 to 14 speak of the
 -- display as it runs along the list.
-use Rattle.std.specs.Prelude.{ℕ, zero, suc, ◌+◌, ◌*◌, ◌-◌, ◌<◌, ◌≤◌, ◌≡◌, true, false, List, [], ◌∷◌, ◌++◌, ◌⊎◌, length, get_or, drop}
+use Rattle.std.specs.Prelude.{ℕ, zero, suc, ◌+◌, ◌*◌, ◌-◌, ◌<◌, ◌≤◌, ◌≡◌, true, false, List, [], ◌∷◌, ◌++◌, ◌⊎◌, length, get_or, drop, Some}
 use Rattle.rules.specs.declared.Answer.{Answer}
-use Rattle.rules.specs.declared.MaybeLoad.TheVariants.{Load}
 use Rattle.rules.specs.declared.Shape.{Shape}
 use Rattle.rules.specs.Basics.{stands, number32}
 use Rattle.rules.specs.Job.{Call, Job, free, most_slots, most_load_time, most_draws, shape_of, starting_symbols, drawn_symbols, draws_of, job_of}
-use Rattle.rules.specs.LoadList.{Event, most_events, last_tick, head_size, event_size, count_of, events_of}
-use Rattle.rules.specs.Display.{State, Run, going, start, land, idle, awaited, finished, run}
+use Rattle.rules.specs.declared.Event.{Event}
+use Rattle.rules.specs.LoadList.{most_events, last_tick, head_size, event_size, count_of, events_of}
+use Rattle.rules.specs.Display.{load, State, Run, going, start, land, idle, awaited, finished, run}
 use Rattle.rules.specs.Plans.{last_plan, rule_of, run_plan}
 use Rattle.rules.specs.Refusals.{due, follow}
 use Rattle.demands.specs.Fair.{event_tick, nth_event}
@@ -139,7 +139,7 @@ check_rows asked list ticks slots =
 
 -- The next event of a list, with slot q and symbol x, has the tick of this state.
 abbrev pub Due : List Event → ℕ → ℕ → State → Type 0
-Due events q x s = due (drop s.loads events) s.tick ≡ Load q x
+Due events q x s = due (drop s.loads events) s.tick ≡ Some (load q x)
 
 -- Rows 10 to 13 in the tick that begins in a state, once a load that ends in this tick is in its slot; for one event 10, 11, 12. The
 -- detail is the event, or for 13 the draw.

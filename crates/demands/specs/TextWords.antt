@@ -1,7 +1,8 @@
 -- A load list as text: the tables of refusals in words, for the writer and for the reader. To be held beside "Three" of document 02.
 -- A text is spoken of as the writer makes it, as the lines of some events; nothing here reads one.
 use Rattle.std.specs.Prelude.{ℕ, ◌+◌, ◌*◌, ◌<◌, ◌≤◌, ◌≡◌, List, [], ◌∷◌, ◌++◌, ◌⊎◌, length}
-use Rattle.rules.specs.LoadList.{Event, most_events, head_size, event_size, events_of}
+use Rattle.rules.specs.declared.Event.{Event}
+use Rattle.rules.specs.LoadList.{most_events, head_size, event_size, events_of}
 use Rattle.rules.specs.Text.{last_slot, last_symbol, line_of, text_of}
 use Rattle.demands.specs.Fair.{event_slot, event_symbol, nth_event}
 use Rattle.demands.specs.Table.{Row, row, plain, ListWrong, FirstOutOfOrder}

@@ -3,8 +3,8 @@ use Prim.Native.Nat.{ℕ, ◌+◌, ◌≤◌}
 use native.Mathlib.Omega.{arith}
 use mathlib.Core.Path.{◌≡◌, ap, ◌∙◌}
 use mathlib.Core.List.{List, []}
-use Rattle.rules.specs.declared.MaybeLoad.{MaybeLoad}
-use Rattle.rules.specs.declared.MaybeLoad.TheVariants.{Load, NoLoad}
+use Rattle.std.specs.Prelude.{Option, Some, None}
+use Rattle.rules.specs.declared.Load.{Load}
 use Rattle.rules.specs.declared.Happening.{Happening}
 use Rattle.rules.specs.Job.{Job}
 use Rattle.rules.specs.Display.{State, begun_by}
@@ -43,10 +43,10 @@ land_keeps slots slots₁ d l lands =
       loads = ap (λ (s : State). s.loads) same;
     }
 
-pub begin_keeps : (job : Job) (asked : MaybeLoad) (slots₁ slots₂ : List ℕ) (l b : Display)
+pub begin_keeps : (job : Job) (asked : Option Load) (slots₁ slots₂ : List ℕ) (l b : Display)
     → ((h : History) → view slots₂ (history_begun l asked h) b ≡ begun_by job asked (view slots₁ h l))
     → BeginKeeps l b
-begin_keeps job NoLoad slots₁ slots₂ l b begins =
+begin_keeps job None slots₁ slots₂ l b begins =
     let same = begins nothing in
     let loads' : b.loads ≡ l.loads = ap (λ (s : State). s.loads) same in
     record {
@@ -56,7 +56,7 @@ begin_keeps job NoLoad slots₁ slots₂ l b begins =
       pause = ap (λ (s : State). s.pause) same;
       loads = omega arith;
     }
-begin_keeps job (Load q x) slots₁ slots₂ l b begins =
+begin_keeps job (Some this) slots₁ slots₂ l b begins =
     let same = begins nothing in
     let loads' : b.loads ≡ l.loads + 1 = ap (λ (s : State). s.loads) same in
     record {

@@ -5,8 +5,8 @@ use mathlib.Core.Path.{◌≡◌, refl, sym, ap}
 use mathlib.Core.Bool.{Bool, not}
 use lib.Dec.{eqb, ltb, leb}
 use borrow.Author.Tests.{ltb-true, ltb-false, lt-leb, le-leb, ne_eqb}
-use Rattle.rules.specs.declared.MaybeLoad.{MaybeLoad}
-use Rattle.rules.specs.declared.MaybeLoad.TheVariants.{Load, NoLoad}
+use Rattle.std.specs.Prelude.{Option, Some, None}
+use Rattle.rules.specs.declared.Load.{Load}
 use Rattle.rules.specs.Order.{clear, met, number_in}
 use Rattle.rules.specs.Job.{Job}
 use Rattle.rules.specs.Display.{State, idle, loadable, load_tests}
@@ -29,13 +29,13 @@ pub in_slots : (job : Job) (r : Bool) (k q : ℕ) → job.slots ≡ k → r ≡ 
 in_slots job r k q same e = rw same e
 
 -- What is answered where nothing is asked for, where a test is met, and where none is.
-pub none_asked : (job : Job) (asked : MaybeLoad) (s : State) → asked ≡ NoLoad → 0 ≡ asked_refusal job asked s
+pub none_asked : (job : Job) (asked : Option Load) (s : State) → asked ≡ None → 0 ≡ asked_refusal job asked s
 none_asked job asked s e = rw e
 
-pub asked_met : (job : Job) (asked : MaybeLoad) (s : State) (n q x : ℕ) → asked ≡ Load q x → Gives (load_tests job q x s) (met n s.loads)
+pub asked_met : (job : Job) (asked : Option Load) (s : State) (n : ℕ) (l : Load) → asked ≡ Some l → Gives (load_tests job l.slot l.symbol s) (met n s.loads)
     → n ≡ asked_refusal job asked s
-asked_met job asked s n q x e g = rw e (ap number_in (sym (gives _ _ g)))
+asked_met job asked s n l e g = rw e (ap number_in (sym (gives _ _ g)))
 
-pub asked_clear : (job : Job) (asked : MaybeLoad) (s : State) (q x : ℕ) → asked ≡ Load q x → Gives (load_tests job q x s) clear
+pub asked_clear : (job : Job) (asked : Option Load) (s : State) (l : Load) → asked ≡ Some l → Gives (load_tests job l.slot l.symbol s) clear
     → 0 ≡ asked_refusal job asked s
-asked_clear job asked s q x e g = rw e (ap number_in (sym (gives _ _ g)))
+asked_clear job asked s l e g = rw e (ap number_in (sym (gives _ _ g)))

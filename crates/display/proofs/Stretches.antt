@@ -6,7 +6,7 @@ use mathlib.Core.Bool.{Bool, false}
 use mathlib.Core.List.{List}
 use lib.ListN.{get_or}
 use lib.Dec.{eqb}
-use Rattle.rules.specs.declared.MaybeLoad.TheVariants.{NoLoad}
+use Rattle.std.specs.Prelude.{None}
 use Rattle.rules.specs.declared.Happening.{Happening}
 use Rattle.rules.specs.declared.Happening.TheVariants.{Wait}
 use Rattle.rules.specs.Basics.{stands}
@@ -47,7 +47,7 @@ rested_none quiet limit happening d early still =
     }
 
 module _ (job : Job) (rule : Rule) where
-  tick_waits : (s l : State) → l ≡ land s → rule.asks l ≡ NoLoad → stands (awaited l) l.slots ≡ false
+  tick_waits : (s l : State) → l ≡ land s → rule.asks l ≡ None → stands (awaited l) l.slots ≡ false
       → stuck (Wait (cause_of l.loading (awaited l))) (rule.done l) ≡ false → tick job rule s ≡ going (wait l)
   unfolding tick beginning happened
   tick_waits s l lands asks absent goes_on =
@@ -57,7 +57,7 @@ module _ (job : Job) (rule : Rule) where
   module _ (slots : List ℕ) (h : History) where
     -- The next tick of this display brings nothing but a wait, where the awaited symbol is in no slot.
     pub record Quiet (d : Display) : Type 0 where
-      pub asks : rule.asks (view slots h (nearer d)) ≡ NoLoad
+      pub asks : rule.asks (view slots h (nearer d)) ≡ None
       pub far : d.remaining ≡ 1 → ⊥
       pub goes_on : d.remaining ≡ 0 → rule.done (view slots h (nearer d)) ≡ false
 

@@ -5,7 +5,8 @@ use mathlib.Core.Path.{◌≡◌, refl, sym, ap, ◌∙◌}
 use mathlib.Core.Bool.{Bool, true, false, cond}
 use mathlib.Core.List.{List}
 use lib.ListN.{get_or}
-use Rattle.rules.specs.declared.MaybeLoad.{MaybeLoad}
+use Rattle.std.specs.Prelude.{Option}
+use Rattle.rules.specs.declared.Load.{Load}
 use Rattle.rules.specs.declared.Happening.{Happening}
 use Rattle.rules.specs.declared.Happening.TheVariants.{Draw, Wait}
 use Rattle.rules.specs.Basics.{place, stands}
@@ -36,7 +37,7 @@ moved_counts : (d : Display) (hp : Happening) → Counted 0 hp d (moved_on hp d)
 moved_counts d (Draw q) = record { tick = refl; next = refl; waits = omega arith; pause = omega arith; loads = omega arith }
 moved_counts d (Wait cause) = record { tick = refl; next = refl; waits = omega arith; pause = omega arith; loads = omega arith }
 
-module _ (slots : List ℕ) (d : Display) (asked : MaybeLoad) (symbol : ℕ) (done : Bool) where
+module _ (slots : List ℕ) (d : Display) (asked : Option Load) (symbol : ℕ) (done : Bool) where
   abbrev here : Happening
   here = happening_of (view slots (awaiting symbol) d)
 

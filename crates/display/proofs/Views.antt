@@ -6,8 +6,8 @@ use mathlib.Core.List.{List}
 use lib.ListN.{set}
 use lib.Dec.{eqb}
 use borrow.Author.Tests.{eqb-true, eqb-false}
-use Rattle.rules.specs.declared.MaybeLoad.{MaybeLoad}
-use Rattle.rules.specs.declared.MaybeLoad.TheVariants.{Load, NoLoad}
+use Rattle.std.specs.Prelude.{Option, Some, None}
+use Rattle.rules.specs.declared.Load.{Load}
 use Rattle.rules.specs.declared.Loading.TheVariants.{Under}
 use Rattle.rules.specs.Job.{Job}
 use Rattle.rules.specs.Display.{start, land, landed_slots, landed_loading}
@@ -55,12 +55,12 @@ pub lands_so : (slots slots₁ : List ℕ) (d l : Display) → l ≡ nearer d �
 lands_so slots slots₁ d l is held h =
     ap (λ (k : List ℕ). view k h l) held ∙ ap (view (landed_in d slots) h) is ∙ landed_view slots h d
 
-begun_view : (time : ℕ) (asked : MaybeLoad) (slots : List ℕ) (d : Display) → 1 ≤ time
+begun_view : (time : ℕ) (asked : Option Load) (slots : List ℕ) (d : Display) → 1 ≤ time
     → Begins time asked slots d (begun_in asked slots) (begun_with time asked d)
-begun_view time NoLoad slots d some h job e = refl
-begun_view time (Load q x) slots d some h job e = simp (under_way time q x (λ none. omega arith), e)
+begun_view time None slots d some h job e = refl
+begun_view time (Some this) slots d some h job e = simp (under_way time this.slot this.symbol (λ none. omega arith), e)
 
-pub begins_so : (time : ℕ) (asked : MaybeLoad) (slots slots₁ : List ℕ) (d b : Display) → 1 ≤ time → b ≡ begun_with time asked d
+pub begins_so : (time : ℕ) (asked : Option Load) (slots slots₁ : List ℕ) (d b : Display) → 1 ≤ time → b ≡ begun_with time asked d
     → slots₁ ≡ begun_in asked slots → Begins time asked slots d slots₁ b
 begins_so time asked slots slots₁ d b some is held h job e =
     ap (λ (k : List ℕ). view k (history_begun d asked h) b) held

@@ -1,8 +1,7 @@
 -- The moves of the code's display, each as an equation: the display after it, and what the slots hold after it. What they are in the rules'
 -- state is a law to each (proofs/Views.antt, proofs/Ticks.antt).
-use Rattle.std.specs.Prelude.{ℕ, ◌+◌, ◌-◌, max, Bool, cond, List, set, eqb}
-use Rattle.rules.specs.declared.MaybeLoad.{MaybeLoad}
-use Rattle.rules.specs.declared.MaybeLoad.TheVariants.{Load, NoLoad}
+use Rattle.std.specs.Prelude.{ℕ, ◌+◌, ◌-◌, max, Bool, cond, List, set, eqb, Option, Some, None}
+use Rattle.rules.specs.declared.Load.{Load}
 use Rattle.rules.specs.declared.Happening.{Happening}
 use Rattle.rules.specs.declared.Happening.TheVariants.{Draw, Wait}
 use Rattle.rules.specs.declared.TickRecord.{TickRecord}
@@ -35,9 +34,9 @@ abbrev pub landed_in : Display → List ℕ → List ℕ
 landed_in d slots = cond (eqb d.remaining 1) (set slots d.target d.incoming) slots
 
 -- Step 2. A load of this time begins, where one is asked for, and empties its slot.
-abbrev pub begun_with : ℕ → MaybeLoad → Display → Display
-begun_with time NoLoad d = d
-begun_with time (Load q x) d =
+abbrev pub begun_with : ℕ → Option Load → Display → Display
+begun_with time None d = d
+begun_with time (Some load) d =
     record {
       tick = d.tick;
       waits = d.waits;
@@ -46,13 +45,13 @@ begun_with time (Load q x) d =
       longest = d.longest;
       next = d.next;
       remaining = time;
-      target = q;
-      incoming = x;
+      target = load.slot;
+      incoming = load.symbol;
     }
 
-abbrev pub begun_in : MaybeLoad → List ℕ → List ℕ
-begun_in NoLoad slots = slots
-begun_in (Load q x) slots = set slots q free
+abbrev pub begun_in : Option Load → List ℕ → List ℕ
+begun_in None slots = slots
+begun_in (Some load) slots = set slots load.slot free
 
 -- Step 3. A draw, or a wait.
 abbrev pub after_draw : Display → Display
@@ -94,5 +93,5 @@ stepped on done d =
     (record { number = 13; detail = d.next; on_record = on; display = d })
     (record { number = 0; detail = 0; on_record = on; display = moved_on on.happening d })
 
-abbrev pub drawn_or_waited : List ℕ → Display → MaybeLoad → ℕ → Bool → Ticked
+abbrev pub drawn_or_waited : List ℕ → Display → Option Load → ℕ → Bool → Ticked
 drawn_or_waited slots d asked symbol done = stepped (record_of asked (view slots (awaiting symbol) d)) done d

@@ -1,7 +1,6 @@
 -- What a tick of the code answers, as the rules have it.
-use Rattle.std.specs.Prelude.{ℕ, ◌+◌, ◌≤◌, ◌<◌, ◌≡◌, Bool, false, cond, List, length, get_or, drop, eqb}
-use Rattle.rules.specs.declared.MaybeLoad.{MaybeLoad}
-use Rattle.rules.specs.declared.MaybeLoad.TheVariants.{Load, NoLoad}
+use Rattle.std.specs.Prelude.{ℕ, ◌+◌, ◌≤◌, ◌<◌, ◌≡◌, Bool, false, cond, List, length, get_or, drop, eqb, Option, Some, None}
+use Rattle.rules.specs.declared.Load.{Load}
 use Rattle.rules.specs.declared.Cause.TheVariants.{Nothing}
 use Rattle.rules.specs.declared.Happening.{Happening}
 use Rattle.rules.specs.declared.Happening.TheVariants.{Draw, Wait}
@@ -31,14 +30,14 @@ pub record CanMove (slots : List ℕ) (d : Display) : Type 0 where
   pub room : Room d
 
 -- The refusal of what is asked for, where anything is.
-abbrev pub asked_refusal : Job → MaybeLoad → State → ℕ
-asked_refusal job NoLoad s = 0
-asked_refusal job (Load q x) s = load_refusal job q x s
+abbrev pub asked_refusal : Job → Option Load → State → ℕ
+asked_refusal job None s = 0
+asked_refusal job (Some load) s = load_refusal job load.slot load.symbol s
 
 -- The tick of a load that is refused with this number. Nothing begins in it, and the display is as it was.
 abbrev pub refused_load : ℕ → Display → Ticked
 refused_load number d =
-    record { number = number; detail = d.loads; on_record = record { begun = NoLoad; happening = Wait Nothing }; display = d }
+    record { number = number; detail = d.loads; on_record = record { begun = None; happening = Wait Nothing }; display = d }
 
 -- Where a tick leads, with these slots after it, given what is beside the display once the tick is on record.
 abbrev pub leads : List ℕ → (TickRecord → History) → Ticked → Run
@@ -59,7 +58,7 @@ pub record Counted (most : ℕ) (happening : Happening) (before later : Display)
   pub loads : later.loads ≤ before.loads + most
 
 -- Step 3 from d, with the awaited symbol, whatever is beside the display.
-pub record DrawnOrWaited (slots : List ℕ) (d : Display) (asked : MaybeLoad) (symbol : ℕ) (done : Bool) (r : Ticked) : Type 0 where
+pub record DrawnOrWaited (slots : List ℕ) (d : Display) (asked : Option Load) (symbol : ℕ) (done : Bool) (r : Ticked) : Type 0 where
   pub recorded : r.on_record ≡ record_of asked (view slots (awaiting symbol) d)
   pub counts : r.number ≡ 0 → Counted 0 r.on_record.happening d r.display
   pub run : (h : History)

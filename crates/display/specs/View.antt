@@ -1,10 +1,9 @@
 -- The code's state as the rules' state. The code has what the slots hold in lent memory. It does not hold what is beside the display:
 -- the draws that remain, the draws made and the loads begun.
-use Rattle.std.specs.Prelude.{ℕ, zero, suc, ◌≡◌, List, [], ◌∷◌, ◌++◌, drop}
+use Rattle.std.specs.Prelude.{ℕ, zero, suc, ◌≡◌, List, [], ◌∷◌, ◌++◌, drop, Option, Some, None}
 use Rattle.rules.specs.declared.Loading.{Loading}
 use Rattle.rules.specs.declared.Loading.TheVariants.{Idle, Under}
-use Rattle.rules.specs.declared.MaybeLoad.{MaybeLoad}
-use Rattle.rules.specs.declared.MaybeLoad.TheVariants.{Load, NoLoad}
+use Rattle.rules.specs.declared.Load.{Load}
 use Rattle.rules.specs.declared.Happening.{Happening}
 use Rattle.rules.specs.declared.Happening.TheVariants.{Draw, Wait}
 use Rattle.rules.specs.declared.TickRecord.{TickRecord}
@@ -52,9 +51,9 @@ abbrev pub drawn_now : Display → ℕ → History → History
 drawn_now d q h = record { rest = drop 1 h.rest; made = h.made ++ (drawn d.tick q ∷ []); begun = h.begun }
 
 -- The same by what went on record in a tick: what began, then what happened.
-abbrev pub history_begun : Display → MaybeLoad → History → History
-history_begun d NoLoad h = h
-history_begun d (Load q x) h = begun_now d q x h
+abbrev pub history_begun : Display → Option Load → History → History
+history_begun d None h = h
+history_begun d (Some load) h = begun_now d load.slot load.symbol h
 
 abbrev pub history_made : Display → Happening → History → History
 history_made d (Draw q) h = drawn_now d q h
@@ -68,7 +67,7 @@ onward d tick h = history_made d tick.happening (history_begun d tick.begun h)
 abbrev pub Lands : List ℕ → Display → List ℕ → Display → Type 0
 Lands slots d slots' r = (h : History) → view slots' h r ≡ land (view slots h d)
 
-abbrev pub Begins : ℕ → MaybeLoad → List ℕ → Display → List ℕ → Display → Type 0
+abbrev pub Begins : ℕ → Option Load → List ℕ → Display → List ℕ → Display → Type 0
 Begins time asked slots d slots' r =
     (h : History) (job : Job) → job.load_time ≡ time → view slots' (history_begun d asked h) r ≡ begun_by job asked (view slots h d)
 

@@ -4,7 +4,7 @@ ghost use Rattle.std.specs.Prelude.{◌≡◌, ◌≤◌, max, set};
 ghost use Rattle.display.specs.Moves.{started, nearer, landed_in, begun_with, begun_in, after_draw, after_wait};
 ghost use Rattle.display.specs.Tick.{Room, CanBegin};
 
-use rules::{FREE, MaybeLoad};
+use rules::{FREE, Load};
 
 // The ticks passed, the waits and loads so far, the waits since the last draw and the most of them before one draw, and the next draw
 // number; then the load under way: in how many ticks it ends, or 0 where none is under way, and its slot and its symbol.
@@ -82,15 +82,15 @@ pub fn land(slots: &mut [u16], d: Display) -> Display
 }
 
 // Step 2 of a tick, where the load that is asked for, if any is, was not refused.
-pub fn begin(slots: &mut [u16], d: Display, time: u16, asked: MaybeLoad) -> Display
+pub fn begin(slots: &mut [u16], d: Display, time: u16, asked: Option<Load>) -> Display
     requires { CanBegin time d }
     ensures display { result ≡ begun_with time asked d }
     ensures slots { slots.new ≡ begun_in asked slots.old }
 {
-    let MaybeLoad::Load { slot, symbol } = asked else {
+    let Some(load) = asked else {
         return d;
     };
-    put(slots, slot as u16, FREE);
+    put(slots, load.slot as u16, FREE);
     Display {
         tick: d.tick,
         waits: d.waits,
@@ -99,8 +99,8 @@ pub fn begin(slots: &mut [u16], d: Display, time: u16, asked: MaybeLoad) -> Disp
         longest: d.longest,
         next: d.next,
         remaining: time,
-        target: slot as u16,
-        incoming: symbol,
+        target: load.slot as u16,
+        incoming: load.symbol,
     }
 }
 

@@ -9,7 +9,7 @@ ghost use Rattle.display.specs.Tick.{Room, CanMove, asked_refusal, refused_load}
 
 use crate::search::slot_of;
 use crate::state::{Display, draw, wait};
-use rules::{Cause, FREE, Happening, MaybeLoad, TickRecord};
+use rules::{Cause, FREE, Happening, Load, TickRecord};
 
 // What came of a tick: the number and detail of its refusal, or number 0, the tick's record, and the display after it.
 #[derive(Drop)]
@@ -45,19 +45,19 @@ fn held_or_none(slots: &[u16], symbol: u16) -> bool
 }
 
 // The first refusal of 10 to 12 that a load which is asked for meets; 0 where it meets none or none is asked for.
-pub fn load_refusal(slots: &[u16], d: Display, asked: MaybeLoad) -> u32
+pub fn load_refusal(slots: &[u16], d: Display, asked: Option<Load>) -> u32
     ensures { (h : History) (job : Job) → job.slots ≡ length slots.now → result ≡ asked_refusal job asked (view slots.now h d) }
 {
-    let MaybeLoad::Load { slot, symbol } = asked else {
+    let Some(load) = asked else {
         return 0;
     };
     if under_way(d) {
         return 10;
     }
-    if beyond(slots, slot) {
+    if beyond(slots, load.slot) {
         return 11;
     }
-    if held_or_none(slots, symbol) {
+    if held_or_none(slots, load.symbol) {
         return 12;
     }
     0
@@ -71,7 +71,7 @@ pub fn refused_load(d: Display, number: u32) -> Ticked
         number,
         detail: d.loads,
         on_record: TickRecord {
-            begun: MaybeLoad::NoLoad,
+            begun: None,
             happening: Happening::Wait(Cause::Nothing),
         },
         display: d,
@@ -126,7 +126,13 @@ fn move_on(d: Display, happening: Happening) -> Display
 }
 
 // Step 3 of a tick: the draw or the wait, refused where it would never end. `done` says that no load will be asked for any more.
-pub fn draw_or_wait(slots: &[u16], d: Display, asked: MaybeLoad, symbol: u16, done: bool) -> Ticked
+pub fn draw_or_wait(
+    slots: &[u16],
+    d: Display,
+    asked: Option<Load>,
+    symbol: u16,
+    done: bool,
+) -> Ticked
     requires { CanMove slots.now d }
     ensures { result ≡ drawn_or_waited slots.now d asked symbol done }
 {

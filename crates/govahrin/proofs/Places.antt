@@ -7,7 +7,7 @@ use lib.ListN.{length, take, drop, length-map, take-append-drop}
 use lib.Seq.{take_at, drop-append-le, length-take-le}
 use lib.Dec.{ltb}
 use borrow.Author.Tests.{lt-ltb, le-ltb, ltb-true, ltb-false}
-use Rattle.rules.specs.declared.CallReading.TheVariants.{Taken}
+use Rattle.std.specs.Prelude.{Ok}
 use Rattle.rules.specs.Order.{Verdict, clear, met, first_of}
 use Rattle.rules.specs.Job.{Call, most_draws, unrolled, draws_of, job_of}
 use Rattle.rules.specs.Display.{Run, going, refused}
@@ -29,7 +29,7 @@ same_test ticks n few =
 
 module _ (asked : Call) (list : List ℕ) where
   -- A check with places for more ticks than the largest job has draws answers as one with just as many.
-  enough_taken : (ticks slots : ℕ) → read_call asked ≡ Taken (unrolled asked)
+  enough_taken : (ticks slots : ℕ) → read_call asked ≡ Ok (unrolled asked)
       → checked asked list (min ticks most_draws) slots ≡ checked asked list ticks slots
   unfolding checked
   enough_taken ticks slots taken = rw (same_test ticks (length (draws_of asked)) (proper asked (unrolled asked) taken).few_draws)

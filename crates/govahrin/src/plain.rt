@@ -1,25 +1,14 @@
 // Why a draw waited, in plain numbers for a host in C.
 ghost use Rattle.std.specs.Prelude.{◌≡◌};
-ghost use Rattle.rules.specs.Why.{brought_number, taken_number, plain_account, plain_reason};
+ghost use Rattle.rules.specs.Why.{event_or_none, plain_account, plain_reason};
 
-use rules::{Account, Brought, NO_EVENT, PlainReason, Reason, TakenOut};
+use rules::{Account, NO_EVENT, PlainReason, Reason};
 
-fn brought_number(brought: Brought) -> u32
-    ensures { result ≡ brought_number brought }
+// An event by its number, or what a host is told where there is none.
+fn event_or_none(event: Option<u32>) -> u32
+    ensures { result ≡ event_or_none event }
 {
-    match brought {
-        Brought::BroughtBy(event) => event,
-        Brought::FromTheStart => NO_EVENT,
-    }
-}
-
-fn taken_number(taken: TakenOut) -> u32
-    ensures { result ≡ taken_number taken }
-{
-    match taken {
-        TakenOut::TakenBy(event) => event,
-        TakenOut::NeverTaken => NO_EVENT,
-    }
+    event.unwrap_or(NO_EVENT)
 }
 
 fn plain_account(account: Account) -> PlainReason
@@ -31,8 +20,8 @@ fn plain_account(account: Account) -> PlainReason
     PlainReason {
         number: 0,
         detail: 0,
-        brought: brought_number(brought),
-        taken: taken_number(taken),
+        brought: event_or_none(brought),
+        taken: event_or_none(taken),
         own: waits.own,
         another: waits.another,
         nothing: waits.nothing,

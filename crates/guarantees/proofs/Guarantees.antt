@@ -7,8 +7,8 @@ use lib.ListN.{length, take}
 use lib.Seq.{take_at}
 use lib.Dec.{eqb}
 use borrow.Author.Tests.{eqb-true, eqb-false}
+use Rattle.std.specs.Prelude.{Ok}
 use Rattle.rules.specs.declared.Answer.{Answer}
-use Rattle.rules.specs.declared.CallReading.TheVariants.{Taken}
 use Rattle.rules.specs.Job.{Call, call, unrolled, draws_of}
 use Rattle.rules.specs.LoadList.{head_size, event_size}
 use Rattle.rules.specs.Plans.{last_plan}
@@ -100,7 +100,7 @@ module _ {asked : Call} {list ticks slots : List ℕ} {answer : Answer} {ticks' 
 
 module _ {asked : Call} {plan : ℕ} {room : List ℕ} {answer : Answer} {room' : List ℕ} (o : PlanOutcome asked plan room answer room') where
   -- Each of the four plans of an accepted job, with room lent, is accepted.
-  pub plan_is_accepted : read_call asked ≡ Taken (unrolled asked) → plan ≤ last_plan → head_size + event_size * length (draws_of asked) ≤ length room
+  pub plan_is_accepted : read_call asked ≡ Ok (unrolled asked) → plan ≤ last_plan → head_size + event_size * length (draws_of asked) ≤ length room
       → answer.number ≡ 0
   plan_is_accepted taken known enough = rw (plan_answer o) ((plan_accepts asked plan (length room)).1 (taken, known, enough))
 

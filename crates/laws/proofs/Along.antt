@@ -9,14 +9,16 @@ use lib.ListN.{length, take, drop, length-drop}
 use lib.Seq.{drop-drop, take-add}
 use lib.Dec.{eqb, ltb, leb}
 use borrow.Author.Tests.{ltb-false, leb-false, eqb-true, eqb-false, le-ltb}
-use Rattle.rules.specs.declared.MaybeLoad.TheVariants.{Load, NoLoad}
+use Rattle.std.specs.Prelude.{Some, None}
 use Rattle.rules.specs.declared.Loading.{Loading}
 use Rattle.rules.specs.declared.Loading.TheVariants.{Idle, Under}
 use Rattle.rules.specs.Job.{Job}
-use Rattle.rules.specs.LoadList.{Event, event, last_tick}
-use Rattle.rules.specs.Display.{State, Loaded, loaded, going, start, landed_loading, finished, run}
+use Rattle.rules.specs.declared.Event.{Event}
+use Rattle.rules.specs.LoadList.{event, last_tick}
+use Rattle.rules.specs.Display.{load, State, Loaded, loaded, going, start, landed_loading, finished, run}
 use Rattle.rules.specs.Refusals.{first_bad_tick, due, follow, most_ticks, event_of}
 use Rattle.laws.proofs.Cases.{by_test, neither}
+use Rattle.laws.proofs.Loads.{same_load}
 use Rattle.laws.proofs.Rows.{map_snoc}
 use Rattle.laws.proofs.Moves.{Moves, reached, is_more, is_over}
 use Rattle.laws.proofs.Runs.{run_ticks}
@@ -34,9 +36,9 @@ Ruly least l = first_bad_tick least l ≡ length l
 pub bad_tick_within : (least : ℕ) (l : List Event) → first_bad_tick least l ≤ length l
 unfolding first_bad_tick
 bad_tick_within least [] = omega arith
-bad_tick_within least (event t q x ∷ l) =
-    let more : first_bad_tick (t + 1) l ≤ length l = bad_tick_within (t + 1) l in
-    by_test (ltb last_tick t || ltb t least) (λ e. rw e (omega arith)) (λ e. rw e (omega arith))
+bad_tick_within least (this ∷ l) =
+    let more : first_bad_tick (this.tick + 1) l ≤ length l = bad_tick_within (this.tick + 1) l in
+    by_test (ltb last_tick this.tick || ltb this.tick least) (λ e. rw e (omega arith)) (λ e. rw e (omega arith))
 
 -- The first event of such a list, and the rest of the list.
 pub ruly_first : (least t q x : ℕ) (l : List Event) → Ruly least (event t q x ∷ l) → (least ≤ t) × (t ≤ last_tick) × Ruly (t + 1) l
@@ -51,8 +53,8 @@ ruly_first least t q x l h =
 
 ruly_more : (least : ℕ) (l : List Event) → Ruly least l → 0 < length l → least ≤ last_tick
 ruly_more least [] h more = absurd (omega arith)
-ruly_more least (event t q x ∷ l) h more =
-    let f : (least ≤ t) × (t ≤ last_tick) × Ruly (t + 1) l = ruly_first least t q x l h in omega arith
+ruly_more least (this ∷ l) h more =
+    let f : (least ≤ this.tick) × (this.tick ≤ last_tick) × Ruly (this.tick + 1) l = ruly_first least this.tick this.slot this.symbol l h in omega arith
 
 ruly_later : (least t q x : ℕ) (l : List Event) → Ruly least (event t q x ∷ l) → least < t → Ruly (least + 1) (event t q x ∷ l)
 unfolding first_bad_tick
@@ -62,32 +64,33 @@ ruly_later least t q x l h later =
 
 -- ---- What is due in a tick
 
-no_load : {A : Type 0} (q x : ℕ) → NoLoad ≡ Load q x → A
+no_load : {A : Type 0} (q x : ℕ) → None ≡ Some (load q x) → A
 no_load q x e = let z : ◌≡◌ {A = ℕ} 0 1 = cc in absurd (omega arith)
 
 -- What begins is the first event of the list, and its tick is now.
-pub due_load : (l : List Event) (now q x : ℕ) → due l now ≡ Load q x → (later : List Event) × (l ≡ event now q x ∷ later)
+pub due_load : (l : List Event) (now q x : ℕ) → due l now ≡ Some (load q x) → (later : List Event) × (l ≡ event now q x ∷ later)
 unfolding due
 due_load [] now q x e = no_load q x e
-due_load (event t r y ∷ later) now q x e =
-    by_test (eqb t now)
+due_load (this ∷ later) now q x e =
+    by_test (eqb this.tick now)
     (λ f.
-    let g : Load r y ≡ Load q x = rw f at e in
-    let e₁ : t ≡ now = eqb-true t now f in
-    (later, cc))
+    let g : Some (load this.slot this.symbol) ≡ Some (load q x) = rw f at e in
+    let (slots, symbols) = same_load this.slot this.symbol q x g in
+    let first : this ≡ event now q x = rw (eqb-true this.tick now f, slots, symbols) in
+    (later, ap (λ (e : Event). e ∷ later) first))
     (λ f. no_load q x (rw f at e))
 
 -- Where nothing is due now, all that is left comes later.
-due_none : (l : List Event) (now : ℕ) → due l now ≡ NoLoad → Ruly now l → Ruly (now + 1) l
+due_none : (l : List Event) (now : ℕ) → due l now ≡ None → Ruly now l → Ruly (now + 1) l
 unfolding due first_bad_tick
 due_none [] now e h = h
-due_none (event t q x ∷ l) now e h =
-    by_test (eqb t now)
-    (λ f. let g : Load q x ≡ NoLoad = rw f at e in no_load q x (sym g))
+due_none (this ∷ l) now e h =
+    by_test (eqb this.tick now)
+    (λ f. let g : Some (load this.slot this.symbol) ≡ None = rw f at e in no_load this.slot this.symbol (sym g))
     (λ f.
-    let g : (now ≤ t) × (t ≤ last_tick) × Ruly (t + 1) l = ruly_first now t q x l h in
-    let other : t ≡ now → ⊥ = eqb-false t now f in
-    ruly_later now t q x l h (omega arith))
+    let g : (now ≤ this.tick) × (this.tick ≤ last_tick) × Ruly (this.tick + 1) l = ruly_first now this.tick this.slot this.symbol l h in
+    let other : this.tick ≡ now → ⊥ = eqb-false this.tick now f in
+    ruly_later now this.tick this.slot this.symbol l h (omega arith))
 
 -- ---- The run
 
@@ -99,7 +102,7 @@ pub record Along (time least tick next loads : ℕ) (events : List Event) (loadi
   pub in_its_time : tick + ahead loading ≤ last_tick + time + next + 1
 
 module _ (time : ℕ) (events : List Event) where
-  along_begins : (tick next loads q x : ℕ) (loading : Loading) (begun : List Loaded) → 1 ≤ time → due (drop loads events) tick ≡ Load q x
+  along_begins : (tick next loads q x : ℕ) (loading : Loading) (begun : List Loaded) → 1 ≤ time → due (drop loads events) tick ≡ Some (load q x)
       → Along time tick tick next loads events loading begun
       → Along time (tick + 1) tick next (loads + 1) events (Under (time - 1) q x) (begun ++ (loaded tick next q x ∷ []))
   along_begins tick next loads q x loading begun some_load_time asks h =

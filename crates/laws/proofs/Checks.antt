@@ -7,13 +7,15 @@ use mathlib.Core.List.{List, []}
 use lib.ListN.{length}
 use lib.Dec.{ltb}
 use borrow.Author.Tests.{ltb-false, le-ltb}
-use Rattle.rules.specs.declared.CallReading.TheVariants.{Taken}
+use Rattle.std.specs.Prelude.{Ok}
 use Rattle.rules.specs.declared.Unrolled.{Unrolled}
 use Rattle.rules.specs.Order.{Verdict, clear, met, first_of}
 use Rattle.rules.specs.Job.{Job, Call, unrolled, draws_of, job_of}
-use Rattle.rules.specs.LoadList.{Event, events_of}
+use Rattle.rules.specs.declared.Event.{Event}
+use Rattle.rules.specs.LoadList.{events_of}
 use Rattle.rules.specs.Display.{State, going, refused, unless, start, finished, run}
-use Rattle.rules.specs.Refusals.{job_tests, call_tests, read_call, bad_list, short_check, first_bad_tick, follow, most_ticks, closing, follows, check_tests, checked}
+use Rattle.rules.specs.Refusals.{job_tests, call_tests, read_call, bad_list, short_check, first_bad_tick, follow, most_ticks, closing, follows}
+use Rattle.rules.specs.Refusals.{check_tests, checked}
 use Rattle.laws.proofs.Cases.{by_test, neither}
 use Rattle.laws.proofs.Verdicts.{clear_of, clear_append, unless_going, step, end, gives}
 use Rattle.laws.proofs.Moves.{then_going, is_over}
@@ -23,7 +25,7 @@ use Rattle.laws.proofs.Along.{Ruly, bad_tick_within, AlongBetween, along}
 -- A check that is not refused: the job is taken in its rounds, the list can be read, the lent room suffices, no event is out of order, and the run
 -- along the list is over with every event begun.
 pub record Accepted (asked : Call) (list : List ℕ) (ticks slots : ℕ) (s : State) : Type 0 where
-  pub job_taken : read_call asked ≡ Taken (unrolled asked)
+  pub job_taken : read_call asked ≡ Ok (unrolled asked)
   pub list_read : bad_list list ≡ false
   pub tick_room : length (draws_of asked) ≤ ticks
   pub slot_room : length (draws_of asked) ≤ slots
@@ -68,7 +70,7 @@ unfolding checked
 checked_past asked list ticks slots e = ap (λ (v : Verdict). unless v (follows (job_of asked) (events_of list))) e
 
 -- A call that is taken, a list that can be read, places enough and events in order: past all tests.
-pub checked_follows : (asked : Call) (list : List ℕ) (ticks slots : ℕ) (shape : Unrolled) → read_call asked ≡ Taken shape → bad_list list ≡ false
+pub checked_follows : (asked : Call) (list : List ℕ) (ticks slots : ℕ) (shape : Unrolled) → read_call asked ≡ Ok shape → bad_list list ≡ false
     → length (draws_of asked) ≤ ticks → length (draws_of asked) ≤ slots → Ruly 0 (events_of list)
     → checked asked list ticks slots ≡ follows (job_of asked) (events_of list)
 unfolding short_check
@@ -94,7 +96,7 @@ unfolding job_tests call_tests short_check
 accepted asked list ticks slots s e =
     let (past, f) = past_tests asked list ticks slots s e in
     let fails = clear_of (check_tests asked list ticks slots) past in
-    let reading : read_call asked ≡ Taken (unrolled asked) = clear_taken asked (clear_append (call_tests asked) _ past).0 in
+    let reading : read_call asked ≡ Ok (unrolled asked) = clear_taken asked (clear_append (call_tests asked) _ past).0 in
     let p : Proper (job_of asked) = proper asked (unrolled asked) reading in
     let ordered : Ruly 0 (events_of list) = in_order (events_of list) (fails 9) in
     let (ran, over, all) = followed (job_of asked) (events_of list) p ordered s f in

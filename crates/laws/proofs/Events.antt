@@ -8,9 +8,10 @@ use lib.ListN.{length, get_or, drop, length-drop, drop_of_length-le}
 use lib.Seq.{drop-cons, drop-drop}
 use lib.Dec.{ltb}
 use borrow.Author.Tests.{lt-ltb, le-ltb, eq-eqb, ne_eqb}
-use Rattle.rules.specs.declared.MaybeLoad.TheVariants.{Load, NoLoad}
-use Rattle.rules.specs.declared.EventReading.TheVariants as reading
-use Rattle.rules.specs.LoadList.{Event, event, head_size, event_size, event_at, last_tick, event_in, read_event, events_in}
+use Rattle.std.specs.Prelude.{Some, None}
+use Rattle.rules.specs.Display.{load}
+use Rattle.rules.specs.declared.Event.{Event}
+use Rattle.rules.specs.LoadList.{event, head_size, event_size, event_at, last_tick, event_in, read_event, events_in}
 use Rattle.rules.specs.Refusals.{first_bad_tick, due}
 use Rattle.laws.proofs.Cases.{by_test}
 
@@ -29,23 +30,23 @@ event_at_place (suc m) b (suc i) d h =
 
 -- What reading an event at its place in a list says: which event comes after those before it.
 module _ (m i : ℕ) (list : List ℕ) (within : i < m) where
-  pub event_read : (t q x : ℕ) → read_event (drop (event_at i) list) ≡ reading.Event t q x
+  pub event_read : (t q x : ℕ) → read_event (drop (event_at i) list) ≡ Some (event t q x)
       → drop i (events_in m (drop head_size list)) ≡ event t q x ∷ drop (i + 1) (events_in m (drop head_size list))
   event_read t q x e =
       let none : Event = event 0 0 0 in
       let size : length (events_in m (drop 7 list)) ≡ m = length-events_in m (drop 7 list) in
       let same : event_in (drop (event_at i) list) ≡ event t q x =
       by_test (ltb (length (drop (event_at i) list)) event_size)
-      (λ short. let z : ◌≡◌ {A = ℕ} 0 1 = let g : reading.Short ≡ reading.Event t q x = rw short at e in cc in absurd (omega arith))
-      (λ long. let g : reading.Event _ _ _ ≡ reading.Event t q x = rw long at e in cc) in
+      (λ short. let z : ◌≡◌ {A = ℕ} 0 1 = let g : None ≡ Some (event t q x) = rw short at e in cc in absurd (omega arith))
+      (λ long. let g : Some (event _ _ _) ≡ Some (event t q x) = rw long at e in cc) in
       drop-cons (events_in m (drop 7 list)) i none (omega arith)
       ∙ rw (event_at_place m (drop 7 list) i none within, drop-drop (7 * i) 7 list, same, add-one)
 
   -- A list that is long enough has seven bytes for each of its events.
-  pub never_short : length list ≡ head_size + event_size * m → read_event (drop (event_at i) list) ≡ reading.Short → ⊥
+  pub never_short : length list ≡ head_size + event_size * m → read_event (drop (event_at i) list) ≡ None → ⊥
   never_short size e =
       let long : event_size ≤ length (drop (event_at i) list) = simp length-drop (omega arith) in
-      let z : ◌≡◌ {A = ℕ} 0 1 = let g : reading.Event _ _ _ ≡ reading.Short = rw (le-ltb _ _ long) at e in cc in
+      let z : ◌≡◌ {A = ℕ} 0 1 = let g : Some (event _ _ _) ≡ None = rw (le-ltb _ _ long) at e in cc in
       omega arith
 
 -- The walk of refusal 9 stops at an event whose tick is over the limit or too low, and goes on after any other.
@@ -63,15 +64,15 @@ unfolding first_bad_tick
 bad_tick_further least t q x l h high = rw (le-ltb last_tick t h, le-ltb t least high)
 
 -- An event is due when its tick has come, and none is where no event is left.
-pub due_now : (t q x now : ℕ) (l : List Event) → t ≡ now → due (event t q x ∷ l) now ≡ Load q x
+pub due_now : (t q x now : ℕ) (l : List Event) → t ≡ now → due (event t q x ∷ l) now ≡ Some (load q x)
 unfolding due
 due_now t q x now l e = rw (eq-eqb t now e)
 
-pub due_later : (t q x now : ℕ) (l : List Event) → (t ≡ now → ⊥) → due (event t q x ∷ l) now ≡ NoLoad
+pub due_later : (t q x now : ℕ) (l : List Event) → (t ≡ now → ⊥) → due (event t q x ∷ l) now ≡ None
 unfolding due
 due_later t q x now l f = rw (ne_eqb t now f)
 
-pub due_none : (l : List Event) (i now : ℕ) → length l ≤ i → due (drop i l) now ≡ NoLoad
+pub due_none : (l : List Event) (i now : ℕ) → length l ≤ i → due (drop i l) now ≡ None
 unfolding due
 due_none l i now h = ap (λ (r : List Event). due r now) (drop_of_length-le l h)
 

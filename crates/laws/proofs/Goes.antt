@@ -5,15 +5,15 @@ use mathlib.Core.Bool.{Bool, false, cond}
 use mathlib.Core.List.{List}
 use lib.ListN.{length}
 use lib.Dec.{eqb}
-use Rattle.rules.specs.declared.MaybeLoad.{MaybeLoad}
-use Rattle.rules.specs.declared.MaybeLoad.TheVariants.{Load, NoLoad}
+use Rattle.std.specs.Prelude.{Option, Some, None}
+use Rattle.rules.specs.declared.Load.{Load}
 use Rattle.rules.specs.declared.Loading.{Loading}
 use Rattle.rules.specs.declared.Loading.TheVariants.{Idle, Under}
 use Rattle.rules.specs.declared.Happening.TheVariants.{Draw, Wait}
 use Rattle.rules.specs.Basics.{place, stands}
 use Rattle.rules.specs.Job.{Job}
 use Rattle.rules.specs.Order.{Verdict, clear, first_of}
-use Rattle.rules.specs.Display.{State, Rule, going, land, begin, load_tests, unless, beginning, awaited, cause_of, happening_of, moved, stuck, happened}
+use Rattle.rules.specs.Display.{load, State, Rule, going, land, begin, load_tests, unless, beginning, awaited, cause_of, happening_of, moved, stuck, happened}
 use Rattle.rules.specs.Display.{tick, finished, run}
 use Rattle.laws.proofs.Cases.{by_test}
 use Rattle.laws.proofs.Moves.{Moves, begun_kept, tick_kept, is_more}
@@ -27,15 +27,17 @@ unstuck (Under left q y) x slots d h =
 
 -- What the rule must see to: a load that it asks for is not refused, and with no load under way it lets no draw wait for nothing.
 pub record Goes (job : Job) (rule : Rule) (L B : State → Type 0) : Type 0 where
-  pub loads : (q x : ℕ) (s : State) → 0 < length s.rest → rule.asks s ≡ Load q x → L s → first_of (load_tests job q x s) ≡ clear
+  pub loads : (q x : ℕ) (s : State) → 0 < length s.rest → rule.asks s ≡ Some (load q x) → L s → first_of (load_tests job q x s) ≡ clear
   pub waits : (s : State) → 0 < length s.rest → stands (awaited s) s.slots ≡ false → s.loading ≡ Idle → B s → rule.done s ≡ false
 
 module _ (job : Job) (rule : Rule) (P L B : State → Type 0) (keeps : Moves job rule P L B)
     (goes : Goes job rule L B) where
-  begins_at_all : (b : MaybeLoad) (s : State) → rule.asks s ≡ b → 0 < length s.rest → L s → (s' : State) × (beginning job b s ≡ going s')
+  begins_at_all : (b : Option Load) (s : State) → rule.asks s ≡ b → 0 < length s.rest → L s → (s' : State) × (beginning job b s ≡ going s')
   unfolding beginning
-  begins_at_all NoLoad s a more l = (s, refl)
-  begins_at_all (Load q x) s a more l = (begin job q x s, ap (λ (v : Verdict). unless v (going (begin job q x s))) (goes.loads q x s more a l))
+  begins_at_all None s a more l = (s, refl)
+  begins_at_all (Some this) s a more l =
+      let begun : State = begin job this.slot this.symbol s in
+      (begun, ap (λ (v : Verdict). unless v (going begun)) (goes.loads this.slot this.symbol s more a l))
 
   happens_at_all : (s : State) → 0 < length s.rest → B s → (s' : State) × (happened (happening_of s) (rule.done s) s ≡ going s')
   unfolding happened

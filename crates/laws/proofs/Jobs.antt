@@ -7,13 +7,14 @@ use mathlib.Core.List.{List, ◌++◌}
 use lib.ListN.{length, get_or, drop}
 use lib.Dec.{ltb}
 use borrow.Author.Tests.{ltb-false}
-use Rattle.rules.specs.declared.CallReading.{CallReading}
-use Rattle.rules.specs.declared.CallReading.TheVariants.{Taken, Refused}
+use Rattle.std.specs.Prelude.{Result, Ok, Err}
+use Rattle.rules.specs.declared.refusal.Refusal.{Refusal}
 use Rattle.rules.specs.declared.Shape.{Shape}
 use Rattle.rules.specs.declared.Unrolled.{Unrolled}
 use Rattle.rules.specs.Basics.{stands, number16}
 use Rattle.rules.specs.Job.{Job, free, most_slots, most_load_time, most_draws, Call, call, draws_at, shape_of, drawn_symbols, draws_of}
 use Rattle.rules.specs.Job.{unrolled, job_of}
+use Rattle.rules.specs.Refusing.{refusal_number, call_refusal}
 use Rattle.rules.specs.Order.{Test, Verdict, clear, met, first_of}
 use Rattle.rules.specs.Refusals.{doubled, job_tests, bad_rounds, call_tests, read_as, read_call, call_number}
 use Rattle.laws.specs.Limits.{Limits}
@@ -34,41 +35,45 @@ pub record Proper (job : Job) : Type 0 where
   pub drawable : stands free job.draws ≡ false
 
 -- What a reading says of its tests: a size comes with no test met, a number with the test of that number.
-read_taken : (v : Verdict) (size size' : Unrolled) → read_as v size ≡ Taken size' → (v ≡ clear) × (size ≡ size')
+read_taken : (v : Verdict) (size size' : Unrolled) → read_as v size ≡ Ok size' → (v ≡ clear) × (size ≡ size')
 read_taken clear size size' e = (refl, cc)
 read_taken (met n d) size size' e = let z : ◌≡◌ {A = ℕ} 0 1 = cc in absurd (omega arith)
 
-read_refused : (v : Verdict) (size : Unrolled) (n : ℕ) → read_as v size ≡ Refused n → (d : ℕ) × (v ≡ met n d)
-read_refused clear size n e = let z : ◌≡◌ {A = ℕ} 0 1 = cc in absurd (omega arith)
-read_refused (met m d) size n e = (d, cc)
+read_refused : (v : Verdict) (size : Unrolled) (r : Refusal) → read_as v size ≡ Err r → (n d : ℕ) × (v ≡ met n d) × (call_refusal n ≡ r)
+read_refused clear size r e = let z : ◌≡◌ {A = ℕ} 0 1 = cc in absurd (omega arith)
+read_refused (met n d) size r e = (n, d, refl, cc)
 
 -- A call that is taken has the size that was read, and each of its tests fails.
-taken_size : (asked : Call) (size : Unrolled) → read_call asked ≡ Taken size → unrolled asked ≡ size
+taken_size : (asked : Call) (size : Unrolled) → read_call asked ≡ Ok size → unrolled asked ≡ size
 taken_size asked size e = (read_taken (first_of (call_tests asked)) (unrolled asked) size e).1
 
-taken_clear : (asked : Call) (size : Unrolled) → read_call asked ≡ Taken size → first_of (call_tests asked) ≡ clear
+taken_clear : (asked : Call) (size : Unrolled) → read_call asked ≡ Ok size → first_of (call_tests asked) ≡ clear
 taken_clear asked size e = (read_taken (first_of (call_tests asked)) (unrolled asked) size e).0
 
-taken_test : (asked : Call) (size : Unrolled) → read_call asked ≡ Taken size → (n : ℕ) → test_of n (call_tests asked) ≡ false
+taken_test : (asked : Call) (size : Unrolled) → read_call asked ≡ Ok size → (n : ℕ) → test_of n (call_tests asked) ≡ false
 taken_test asked size e = clear_of (call_tests asked) (taken_clear asked size e)
 
 -- The other way round, a call of which each test fails is taken.
-pub clear_taken : (asked : Call) → first_of (call_tests asked) ≡ clear → read_call asked ≡ Taken (unrolled asked)
+pub clear_taken : (asked : Call) → first_of (call_tests asked) ≡ clear → read_call asked ≡ Ok (unrolled asked)
 clear_taken asked e = ap (λ (v : Verdict). read_as v (unrolled asked)) e
 
--- No refusal of a call has a detail.
-refused_met : (asked : Call) (n : ℕ) → read_call asked ≡ Refused n → first_of (call_tests asked) ≡ met n 0
-refused_met asked n e =
-    let (d, is) = read_refused (first_of (call_tests asked)) (unrolled asked) n e in
-    let none : d ≡ 0 = met_by (λ m c. c ≡ 0) (call_tests asked) n d (unfold Each job_tests call_tests in search) is in
-    is ∙ ap (met n) none
+-- Each test of a call has the number of its refusal, and no detail.
+pub call_met : (asked : Call) (n d : ℕ) → first_of (call_tests asked) ≡ met n d → (refusal_number (call_refusal n) ≡ n) × (d ≡ 0)
+call_met asked n d is =
+    met_by (λ m c. (refusal_number (call_refusal m) ≡ m) × (c ≡ 0)) (call_tests asked) n d (unfold Each job_tests call_tests in search) is
+
+refused_met : (asked : Call) (r : Refusal) → read_call asked ≡ Err r → first_of (call_tests asked) ≡ met (refusal_number r) 0
+refused_met asked r e =
+    let (n, d, is, same) = read_refused (first_of (call_tests asked)) (unrolled asked) r e in
+    let (number, none) = call_met asked n d is in
+    is ∙ ap (met n) none ∙ ap (λ (m : ℕ). met m 0) (sym number ∙ ap refusal_number same)
 
 -- As code meets the tests: what it answers once they are walked is what the definition reads.
-pub call_refused : (asked : Call) (n : ℕ) → Gives (call_tests asked) (met n 0) → Refused n ≡ read_call asked
+pub call_refused : (asked : Call) (n : ℕ) → Gives (call_tests asked) (met n 0) → Err (call_refusal n) ≡ read_call asked
 call_refused asked n g = ap (λ (v : Verdict). read_as v (unrolled asked)) (sym (gives _ _ g))
 
-pub call_taken : (asked : Call) (size : Unrolled) → size ≡ unrolled asked → Gives (call_tests asked) clear → Taken size ≡ read_call asked
-call_taken asked size same g = ap Taken same ∙ ap (λ (v : Verdict). read_as v (unrolled asked)) (sym (gives _ _ g))
+pub call_taken : (asked : Call) (size : Unrolled) → size ≡ unrolled asked → Gives (call_tests asked) clear → Ok size ≡ read_call asked
+call_taken asked size same g = ap Ok same ∙ ap (λ (v : Verdict). read_as v (unrolled asked)) (sym (gives _ _ g))
 
 -- Where 17 is not met, the draws of all rounds are few, as code has them from the shape that was read.
 pub few_in_rounds : (job : List ℕ) (rounds : ℕ) (shape : Shape) (r : Bool) → shape ≡ shape_of job → r ≡ bad_rounds (call job rounds) → r ≡ false
@@ -78,21 +83,26 @@ few_in_rounds job rounds shape r read e fails =
     rw read (ltb-false _ _ (neither (ltb rounds 1) (ltb most_draws (rounds * (shape_of job).draws)) (sym e ∙ fails)).1)
 
 -- Once code has read the call, the tests after those of a call are left, or a number was met.
-pub past_call : (asked : Call) (reading : CallReading) (size : Unrolled) {later : List Test} {v : Verdict} → reading ≡ read_call asked
-    → reading ≡ Taken size → Gives later v → Gives (call_tests asked ++ later) v
+pub past_call : (asked : Call) (reading : Result Unrolled Refusal) (size : Unrolled) {later : List Test} {v : Verdict} → reading ≡ read_call asked
+    → reading ≡ Ok size → Gives later v → Gives (call_tests asked ++ later) v
 past_call asked reading size is taken g = past (walked (call_tests asked) clear (taken_clear asked size (sym is ∙ taken))) g
 
-pub at_call : (asked : Call) (reading : CallReading) (n m : ℕ) (later : List Test) → reading ≡ read_call asked → reading ≡ Refused n
+pub refused_call : (asked : Call) (reading : Result Unrolled Refusal) (r : Refusal) (later : List Test) → reading ≡ read_call asked → reading ≡ Err r
+    → Gives (call_tests asked ++ later) (met (refusal_number r) 0)
+refused_call asked reading r later is stops =
+    inside later (walked (call_tests asked) (met (refusal_number r) 0) (refused_met asked r (sym is ∙ stops)))
+
+pub at_call : (asked : Call) (reading : Result Unrolled Refusal) (r : Refusal) (m : ℕ) (later : List Test) → reading ≡ read_call asked → reading ≡ Err r
     → m ≡ call_number reading → Gives (call_tests asked ++ later) (met m 0)
-at_call asked reading n m later is stops number =
-    rw (number, stops) (inside later (walked (call_tests asked) (met n 0) (refused_met asked n (sym is ∙ stops))))
+at_call asked reading r m later is stops number =
+    rw (number, stops) (inside later (walked (call_tests asked) (met (refusal_number r) 0) (refused_met asked r (sym is ∙ stops))))
 
 -- The rounds that a call was taken with are those that it asks for.
-pub same_call : (asked : Call) (size : Unrolled) → read_call asked ≡ Taken size → asked ≡ call asked.job size.rounds
+pub same_call : (asked : Call) (size : Unrolled) → read_call asked ≡ Ok size → asked ≡ call asked.job size.rounds
 same_call asked size e = ap (λ (s : Unrolled). call asked.job s.rounds) (taken_size asked size e)
 
 -- What is taken keeps to the limits and has as many draws as its size says.
-pub limits : (asked : Call) (size : Unrolled) → read_call asked ≡ Taken size → Limits asked size
+pub limits : (asked : Call) (size : Unrolled) → read_call asked ≡ Ok size → Limits asked size
 unfolding job_tests call_tests bad_rounds
 limits asked size e =
     let job : List ℕ = asked.job in
@@ -114,7 +124,7 @@ limits asked size e =
     }
 
 -- So it is a proper one.
-pub proper : (asked : Call) (size : Unrolled) → read_call asked ≡ Taken size → Proper (job_of asked)
+pub proper : (asked : Call) (size : Unrolled) → read_call asked ≡ Ok size → Proper (job_of asked)
 unfolding job_tests call_tests
 proper asked size e =
     let job : List ℕ = asked.job in

@@ -1,5 +1,6 @@
 pub mod Cases
 pub mod Verdicts
+pub mod Loads
 pub mod Symbols
 pub mod Parts
 pub mod Places

@@ -8,8 +8,8 @@ use mathlib.Core.List.{List, [], ◌∷◌}
 use lib.ListN.{length}
 use lib.Dec.{eqb}
 use borrow.Author.Tests.{ltb-true, lt-ltb, eqb-false, ne_eqb, not-false}
-use Rattle.rules.specs.declared.MaybeLoad.{MaybeLoad}
-use Rattle.rules.specs.declared.MaybeLoad.TheVariants.{Load, NoLoad}
+use Rattle.std.specs.Prelude.{Option, Some, None}
+use Rattle.rules.specs.declared.Load.{Load}
 use Rattle.rules.specs.declared.Loading.{Loading}
 use Rattle.rules.specs.declared.Loading.TheVariants.{Idle, Under}
 use Rattle.rules.specs.declared.Happening.{Happening}
@@ -17,14 +17,14 @@ use Rattle.rules.specs.declared.Happening.TheVariants.{Wait}
 use Rattle.rules.specs.Basics.{place, stands}
 use Rattle.rules.specs.Job.{Job, free}
 use Rattle.rules.specs.Order.{Verdict, clear, met, first_of, number_in}
-use Rattle.rules.specs.Display.{State, Run, Rule, going, refused, land, begin, idle, load_tests, load_refusal, beginning, awaited, cause_of, happening_of}
+use Rattle.rules.specs.Display.{load, State, Run, Rule, going, refused, land, begin, idle, load_tests, load_refusal, beginning, awaited, cause_of, happening_of}
 use Rattle.rules.specs.Display.{draw, wait, stuck, moved, happened, then, tick, finished, run}
 use Rattle.laws.proofs.Cases.{by_test, neither}
 use Rattle.laws.proofs.Verdicts.{clear_of, Each, met_by, unless_going, unless_refused, step, end, gives}
 
 -- What is known when a load begins, when a symbol is drawn, and when a tick is a wait.
 pub record Begins (job : Job) (rule : Rule) (q x : ℕ) (s : State) : Type 0 where
-  pub asks : rule.asks s ≡ Load q x
+  pub asks : rule.asks s ≡ Some (load q x)
   pub more : 0 < length s.rest
   pub quiet : s.loading ≡ Idle
   pub slot : q < job.slots
@@ -47,14 +47,14 @@ then_going (going s) f s' e = (s, refl, e)
 then_going (refused number detail) f s' e = let z : ◌≡◌ {A = ℕ} 0 1 = cc in absurd (omega arith)
 
 -- A load that is not refused begins.
-pub beginning_going : (job : Job) (q x : ℕ) (s s' : State) → beginning job (Load q x) s ≡ going s'
+pub beginning_going : (job : Job) (q x : ℕ) (s s' : State) → beginning job (Some (load q x)) s ≡ going s'
     → (first_of (load_tests job q x s) ≡ clear) × (begin job q x s ≡ s')
 unfolding beginning
 beginning_going job q x s s' e =
     let (none, same) = unless_going (first_of (load_tests job q x s)) (going (begin job q x s)) s' e in (none, cc)
 
 -- One that is refused meets a test.
-pub beginning_refused : (job : Job) (q x n d : ℕ) (s : State) → beginning job (Load q x) s ≡ refused n d → first_of (load_tests job q x s) ≡ met n d
+pub beginning_refused : (job : Job) (q x n d : ℕ) (s : State) → beginning job (Some (load q x)) s ≡ refused n d → first_of (load_tests job q x s) ≡ met n d
 unfolding beginning
 beginning_refused job q x n d s e = unless_refused (first_of (load_tests job q x s)) (begin job q x s) n d e
 
@@ -118,7 +118,7 @@ is_over (x ∷ rest) e = let z : ◌≡◌ {A = ℕ} 0 1 = cc in absurd (omega a
 -- that is to begin in it has begun, A after it.
 pub record Steps (job : Job) (rule : Rule) (P L B A : State → Type 0) : Type 0 where
   pub lands : (s : State) → 0 < length s.rest → P s → L (land s)
-  pub passes : (s : State) → 0 < length s.rest → rule.asks s ≡ NoLoad → L s → B s
+  pub passes : (s : State) → 0 < length s.rest → rule.asks s ≡ None → L s → B s
   pub begins : (q x : ℕ) (s : State) → Begins job rule q x s → L s → B (begin job q x s)
   pub draws : (q : ℕ) (s : State) → Draws q s → B s → A (draw q s)
   pub waits : (s : State) → Waits rule s → B s → A (wait s)
@@ -128,17 +128,17 @@ abbrev pub Moves : Job → Rule → (State → Type 0) → (State → Type 0) �
 Moves job rule P L B = Steps job rule P L B P
 
 module _ (job : Job) (rule : Rule) (P L B A : State → Type 0) (keeps : Steps job rule P L B A) where
-  pub begun_kept : (b : MaybeLoad) (s s' : State) → rule.asks s ≡ b → 0 < length s.rest → L s → beginning job b s ≡ going s'
+  pub begun_kept : (b : Option Load) (s s' : State) → rule.asks s ≡ b → 0 < length s.rest → L s → beginning job b s ≡ going s'
       → (0 < length s'.rest) × B s'
   unfolding beginning
-  begun_kept NoLoad s s' a more h e =
+  begun_kept None s s' a more h e =
       let same : s ≡ s' = cc in subst (λ (z : State). (0 < length z.rest) × B z) same (more, keeps.passes s more a h)
-  begun_kept (Load q x) s s' a more h e =
-      let (none, same) = beginning_going job q x s s' e in
-      let (i, l, f, n) = load_taken job q x s none in
-      let facts : Begins job rule q x s =
+  begun_kept (Some this) s s' a more h e =
+      let (none, same) = beginning_going job this.slot this.symbol s s' e in
+      let (i, l, f, n) = load_taken job this.slot this.symbol s none in
+      let facts : Begins job rule this.slot this.symbol s =
       record { asks = a; more = more; quiet = is_idle s.loading i; slot = l; symbol = f; nowhere = n } in
-      subst (λ (z : State). (0 < length z.rest) × B z) same (more, keeps.begins q x s facts h)
+      subst (λ (z : State). (0 < length z.rest) × B z) same (more, keeps.begins this.slot this.symbol s facts h)
 
   happened_kept : (s s' : State) → 0 < length s.rest → B s → happened (happening_of s) (rule.done s) s ≡ going s' → A s'
   happened_kept s s' more b e =
@@ -177,7 +177,7 @@ reached job rule P L B keeps (suc t) s s' p e =
 -- The same upon what is known already: Q, R and S are kept by the moves, and so at each move they may be used for P, L and B.
 pub record Upon (job : Job) (rule : Rule) (Q R S P L B : State → Type 0) : Type 0 where
   pub lands : (s : State) → 0 < length s.rest → Q s → P s → L (land s)
-  pub passes : (s : State) → 0 < length s.rest → rule.asks s ≡ NoLoad → R s → L s → B s
+  pub passes : (s : State) → 0 < length s.rest → rule.asks s ≡ None → R s → L s → B s
   pub begins : (q x : ℕ) (s : State) → Begins job rule q x s → R s → L s → B (begin job q x s)
   pub draws : (q : ℕ) (s : State) → Draws q s → S s → B s → P (draw q s)
   pub waits : (s : State) → Waits rule s → S s → B s → P (wait s)

@@ -5,9 +5,10 @@ use mathlib.Core.Path.{◌≡◌, refl, ◌∙◌}
 use mathlib.Core.List.{List, [], ◌∷◌, ◌++◌, append-nil}
 use lib.ListN.{length, length-append}
 use borrow.Author.Tests.{le-ltb, eq-eqb}
-use Rattle.rules.specs.declared.ListReading.TheVariants.{Listed}
+use Rattle.std.specs.Prelude.{Some}
 use Rattle.rules.specs.Basics.{number16, number32, bytes16, bytes32}
-use Rattle.rules.specs.LoadList.{Event, event, most_events, head_size, event_size, events_in, events_of, head_bytes, events_bytes, list_bytes}
+use Rattle.rules.specs.declared.Event.{Event}
+use Rattle.rules.specs.LoadList.{event, most_events, head_size, event_size, events_in, events_of, head_bytes, events_bytes, list_bytes}
 use Rattle.rules.specs.Refusals.{read_list}
 
 -- A number taken apart into four bytes, or two, and put together again.
@@ -20,19 +21,19 @@ joined16 x = omega arith
 pub events_back : (l : List Event) (rest : List ℕ) → events_in (length l) (events_bytes l ++ rest) ≡ l
 unfolding events_in events_bytes
 events_back [] rest = refl
-events_back (event t q x ∷ l) rest = rw (joined32 t, joined16 x, events_back l rest)
+events_back (this ∷ l) rest = rw (joined32 this.tick, joined16 this.symbol, events_back l rest)
 
 pub length-events : (l : List Event) → length (events_bytes l) ≡ 7 * length l
 unfolding events_bytes
 length-events [] = refl
-length-events (event t q x ∷ l) = let more : length (events_bytes l) ≡ 7 * length l = length-events l in omega arith
+length-events (this ∷ l) = let more : length (events_bytes l) ≡ 7 * length l = length-events l in omega arith
 
 -- A list takes seven bytes for its head and seven for each event.
 pub length-list : (l : List Event) → length (list_bytes l) ≡ head_size + event_size * length l
 length-list l = length-append (head_bytes (length l)) (events_bytes l) ∙ rw (length-events l)
 
 -- The head reads back as the number of events, and the rest as the events.
-pub read_back : (l : List Event) → length l ≤ most_events → (read_list (list_bytes l) ≡ Listed (length l)) × (events_of (list_bytes l) ≡ l)
+pub read_back : (l : List Event) → length l ≤ most_events → (read_list (list_bytes l) ≡ Some (length l)) × (events_of (list_bytes l) ≡ l)
 read_back l few =
     let size : length (events_bytes l) ≡ 7 * length l = length-events l in
     let whole : 3 + 7 * length l ≡ suc (suc (suc (suc (suc (suc (suc (7 * length l))))))) - 4 = omega arith in (

@@ -6,7 +6,8 @@ use mathlib.Core.List.{List, [], ◌∷◌, ◌++◌, append-nil, append_assoc}
 use lib.ListN.{length, take, drop, length-append, length-drop}
 use lib.Seq.{take_at, drop_at, drop-drop, drop-append-add, length-take-le}
 use borrow.Author.Tests.{le-ltb, ltb-false}
-use Rattle.rules.specs.LoadList.{Event, event_bytes, head_bytes, events_bytes, put, too_short, put_head}
+use Rattle.rules.specs.declared.Event.{Event}
+use Rattle.rules.specs.LoadList.{event_bytes, head_bytes, events_bytes, put, too_short, put_head}
 use Rattle.rules.specs.Refusals.{lent}
 use Rattle.laws.proofs.Cases.{by_test}
 

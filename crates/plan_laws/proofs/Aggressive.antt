@@ -6,11 +6,11 @@ use mathlib.Core.Bool.{Bool, true, false, ◌&&◌}
 use lib.ListN.{length, get_or, set}
 use lib.Dec.{ltb, leb}
 use borrow.Author.Tests.{ltb-true, lt-ltb, leb-true, leb-false}
-use Rattle.rules.specs.declared.MaybeLoad.TheVariants.{Load, NoLoad}
+use Rattle.std.specs.Prelude.{Some, None}
 use Rattle.rules.specs.declared.Loading.TheVariants.{Idle}
 use Rattle.rules.specs.Basics.{place, stands}
 use Rattle.rules.specs.Job.{Job, free}
-use Rattle.rules.specs.Display.{State, idle, awaited}
+use Rattle.rules.specs.Display.{load, State, idle, awaited}
 use Rattle.rules.specs.Plans.{rank, missing, furthest, ahead, aggressive}
 use Rattle.laws.proofs.Cases.{by_test}
 use Rattle.laws.proofs.Moves.{Begins, load_free}
@@ -49,7 +49,7 @@ module _ (job : Job) (proper : Proper job) where
     missed : first s < length s.rest
     far : first s ≤ rank (ahead s) (get_or s.slots (chosen s) 0)
 
-  asked : (s : State) (q x : ℕ) → (aggressive job).asks s ≡ Load q x → Asked s q x
+  asked : (s : State) (q x : ℕ) → (aggressive job).asks s ≡ Some (load q x) → Asked s q x
   asked s q x e =
       let (test, to, symbol) = asked_load (wanting s) (chosen s) (get_or s.rest (first s) 0) q x e in
       let (early, far) = both_true (idle s.loading && some_missing s) (not_before s) test in
@@ -58,7 +58,7 @@ module _ (job : Job) (proper : Proper job) where
 
   -- Where the draw itself is missing, what goes out cannot be drawn before it, so a load is asked for.
   asks_at_miss : (s : State) → 0 < length s.rest → s.loading ≡ Idle → stands (awaited s) s.slots ≡ false
-      → (aggressive job).asks s ≡ NoLoad → ⊥
+      → (aggressive job).asks s ≡ None → ⊥
   asks_at_miss s more quiet missed e =
       let now : first s ≡ 0 = missing_now s.slots s.rest more missed in
       let test : wanting s ≡ false = asked_none (wanting s) (chosen s) (get_or s.rest (first s) 0) e in

@@ -5,7 +5,8 @@ use native.Mathlib.Omega.{arith}
 use native.Mathlib.Nat.{mul-add, mul-one}
 use mathlib.Core.Path.{◌≡◌, refl, ap, ◌∙◌}
 use mathlib.Core.Bool.{true, false}
-use Rattle.rules.specs.declared.MaybeLoad.{MaybeLoad}
+use Rattle.std.specs.Prelude.{Option}
+use Rattle.rules.specs.declared.Load.{Load}
 use Rattle.rules.specs.declared.Loading.{Loading}
 use Rattle.rules.specs.declared.Loading.TheVariants.{Idle, Under}
 use Rattle.rules.specs.Job.{Job}
@@ -31,7 +32,7 @@ wait_used (Under left q x) h = omega arith
 pub one_more : (f l : ℕ) → f * (l + 1) ≡ f * l + f
 one_more f l = mul-add f l 1 ∙ ap (λ (n : ℕ). f * l + n) (mul-one f)
 
-module _ (job : Job) (asks : State → MaybeLoad) (some_load_time : 1 ≤ job.load_time) where
+module _ (job : Job) (asks : State → Option Load) (some_load_time : 1 ≤ job.load_time) where
   abbrev Spent : State → Type 0
   Spent s = s.waits + ahead (landed_loading s.loading) ≤ job.load_time * s.loads
 

@@ -10,13 +10,13 @@ use lib.ListN.{length, get_or, take, drop, length-drop, length-map}
 use lib.Seq.{set-set, drop-drop, take-add, take_all}
 use lib.Dec.{leb}
 use borrow.Author.Tests.{leb-true, le-leb}
-use Rattle.rules.specs.declared.MaybeLoad.{MaybeLoad}
-use Rattle.rules.specs.declared.MaybeLoad.TheVariants.{Load, NoLoad}
+use Rattle.std.specs.Prelude.{Option, Some, None}
+use Rattle.rules.specs.declared.Load.{Load}
 use Rattle.rules.specs.declared.Loading.{Loading}
 use Rattle.rules.specs.declared.Loading.TheVariants.{Idle, Under}
 use Rattle.rules.specs.Basics.{place, stands}
 use Rattle.rules.specs.Job.{Job, free}
-use Rattle.rules.specs.Display.{State, Loaded, loaded, start, idle, awaited}
+use Rattle.rules.specs.Display.{load, State, Loaded, loaded, start, idle, awaited}
 use Rattle.rules.specs.Plans.{earliest, conservative, opt, run_plan, begun_in, rule_of}
 use Rattle.laws.proofs.Cases.{by_test}
 use Rattle.laws.proofs.Rows.{map_snoc}
@@ -46,8 +46,8 @@ settled_idle Idle slots e = refl
 settled_idle (Under left q x) slots e = let impossible : ◌≡◌ {A = ℕ} 0 1 = cc in absurd (omega arith)
 
 -- A load as what the display is asked for: its slot and its symbol.
-abbrev pub load_of : Loaded → MaybeLoad
-load_of (loaded t d q x) = Load q x
+abbrev pub load_of : Loaded → Option Load
+load_of (loaded t d q x) = Some (load q x)
 
 -- The load asked for is the first of those still to make, and what goes out is not drawn before its miss.
 pub record Asked (left : List Loaded) (s : State) (q x : ℕ) : Type 0 where
@@ -58,7 +58,7 @@ pub record Asked (left : List Loaded) (s : State) (q x : ℕ) : Type 0 where
   pub quiet : idle s.loading ≡ true
   pub enough : miss ≤ s.next + place (get_or s.slots q 0) s.rest
 
-pub asked : (left : List Loaded) (s : State) (q x : ℕ) → earliest left s ≡ Load q x → Asked left s q x
+pub asked : (left : List Loaded) (s : State) (q x : ℕ) → earliest left s ≡ Some (load q x) → Asked left s q x
 asked [] s q x e = let impossible : ◌≡◌ {A = ℕ} 0 1 = cc in absurd (omega arith)
 asked (loaded t m r y ∷ left) s q x e =
     let (test, to, symbol) = asked_load (idle s.loading && leb m (s.next + place (get_or s.slots r 0) s.rest)) r y q x e in
@@ -68,7 +68,7 @@ asked (loaded t m r y ∷ left) s q x e =
 
 -- A load whose miss is the next draw is asked for at once.
 asked_now : (left : List Loaded) (s : State) (q x : ℕ) (later : List Miss) → map miss_of left ≡ miss s.next q x ∷ later → s.loading ≡ Idle
-    → earliest left s ≡ NoLoad → ⊥
+    → earliest left s ≡ None → ⊥
 asked_now [] s q x later e quiet none = let impossible : ◌≡◌ {A = ℕ} 0 1 = cc in omega arith
 asked_now (loaded t m r y ∷ left) s q x later e quiet none =
     let now : m ≡ s.next = cc in

@@ -5,9 +5,9 @@ use native.Mathlib.Nat.{mul-le-mul_left}
 use mathlib.Core.Path.{◌≡◌, ap}
 use mathlib.Core.List.{List, [], map}
 use lib.ListN.{length}
+use Rattle.std.specs.Prelude.{Ok}
 use Rattle.rules.specs.declared.Loading.{Loading}
 use Rattle.rules.specs.declared.Loading.TheVariants.{Idle, Under}
-use Rattle.rules.specs.declared.CallReading.TheVariants.{Taken}
 use Rattle.rules.specs.declared.Unrolled.{Unrolled}
 use Rattle.rules.specs.Job.{Job, Call, job_of, draws_of, unrolled}
 use Rattle.rules.specs.LoadList.{head_size, event_size, events_of}
@@ -111,7 +111,7 @@ conservative_best asked list ticks slots s e room enough =
     )
 
 -- Of every job that is taken, with room enough, conservative is never later than opt, and makes opt's loads in opt's order.
-pub conservative_like_opt : (asked : Call) (shape : Unrolled) (room : ℕ) → read_call asked ≡ Taken shape
+pub conservative_like_opt : (asked : Call) (shape : Unrolled) (room : ℕ) → read_call asked ≡ Ok shape
     → head_size + event_size * length (draws_of asked) ≤ room
     → (c o : State) × (planned asked 1 room ≡ going c) × (planned asked 2 room ≡ going o)
     × (c.tick ≤ o.tick) × (map load_of c.begun ≡ map load_of o.begun)

@@ -5,7 +5,8 @@ use native.Mathlib.Nat.{mul-le-mul}
 use mathlib.Core.Path.{◌≡◌, refl, ◌∙◌}
 use mathlib.Core.List.{[], map}
 use lib.ListN.{length}
-use Rattle.rules.specs.declared.MaybeLoad.{MaybeLoad}
+use Rattle.std.specs.Prelude.{Option}
+use Rattle.rules.specs.declared.Load.{Load}
 use Rattle.rules.specs.Job.{Job, most_load_time, most_draws}
 use Rattle.rules.specs.LoadList.{last_tick}
 use Rattle.rules.specs.Display.{State, Rule, going, start, land, tick, finished, run}
@@ -53,7 +54,7 @@ done_with job rule Q d also =
     }
 
 -- A plan's run, for what its moves keep beside sanity and what makes it ready.
-module _ (job : Job) (proper : Proper job) (asks : State → MaybeLoad) (P : State → Type 0)
+module _ (job : Job) (proper : Proper job) (asks : State → Option Load) (P : State → Type 0)
     (keeps : SaneMoves job (asking asks) P P P) (starts : P (start job))
     (ready : (s : State) → 0 < length s.rest → SaneState job s → P s → Ready job asks s) where
   holds : (t : ℕ) (s : State) → run job (asking asks) t (start job) ≡ going s → P s

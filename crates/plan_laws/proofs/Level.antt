@@ -1,6 +1,6 @@
 -- Two plans on demand side by side, draw by draw. Both give up what is furthest; of what is never drawn again one gives up what came free
 -- first, the other whatever it likes. They miss the same draws, and what the first gives up never came free later, taken over all so far.
-use Prim.Native.Nat.{ℕ, zero, suc, ◌+◌, ◌-◌, ◌<◌, ◌≤◌, max}
+use Prim.Native.Nat.{ℕ, zero, suc, ◌+◌, ◌<◌, ◌≤◌, max}
 use native.Mathlib.Omega.{arith}
 use mathlib.Core.Path.{◌≡◌, refl, sym, ap, ◌∙◌}
 use mathlib.Core.Bool.{false, cond}

@@ -5,10 +5,10 @@ use mathlib.Core.Path.{◌≡◌, ap}
 use mathlib.Core.Bool.{Bool, true, false, not, ◌&&◌}
 use lib.ListN.{length, set}
 use borrow.Author.Tests.{not-true, not-false}
-use Rattle.rules.specs.declared.MaybeLoad.TheVariants.{Load}
+use Rattle.std.specs.Prelude.{Some}
 use Rattle.rules.specs.Basics.{stands}
 use Rattle.rules.specs.Job.{Job}
-use Rattle.rules.specs.Display.{State, idle, awaited}
+use Rattle.rules.specs.Display.{load, State, idle, awaited}
 use Rattle.rules.specs.Plans.{missing, furthest, behind, both_ways, on_demand, opt_slot, opt, lru}
 use Rattle.laws.proofs.Moves.{Begins, load_free}
 use Rattle.laws.proofs.Jobs.{Proper}
@@ -30,7 +30,7 @@ pub record Demanded (slot : State → ℕ) (q x : ℕ) (s : State) : Type 0 wher
   pub symbol : awaited s ≡ x
 
 -- What such a plan asks for is a load on demand.
-pub demanded : (slot : State → ℕ) (q x : ℕ) (s : State) → (on_demand slot).asks s ≡ Load q x → Demanded slot q x s
+pub demanded : (slot : State → ℕ) (q x : ℕ) (s : State) → (on_demand slot).asks s ≡ Some (load q x) → Demanded slot q x s
 demanded slot q x s e =
     let (test, to, symbol) = asked_load (wanting s) (slot s) (awaited s) q x e in
     let (quiet, missed) = both_true (idle s.loading) (not (stands (awaited s) s.slots)) test in

@@ -9,7 +9,7 @@ use lib.ListN.{length, get_or, take, drop, set, length-drop, length-map, length-
 use lib.Seq.{set-set, drop-drop, get_or-drop}
 use lib.Dec.{eqb, ltb, leb}
 use borrow.Author.Tests.{ltb-true, ltb-false, leb-false, eqb-true, eqb-false}
-use Rattle.rules.specs.declared.MaybeLoad.TheVariants.{NoLoad}
+use Rattle.std.specs.Prelude.{None}
 use Rattle.rules.specs.declared.Loading.{Loading}
 use Rattle.rules.specs.declared.Loading.TheVariants.{Idle, Under}
 use Rattle.rules.specs.Basics.{place, stands}
@@ -220,11 +220,11 @@ module _ (job : Job) (proper : Proper job) (pick : Choosing) (below : Below pick
     pub tick : s'.tick ≡ s.tick + 1
 
   -- With none under way, a load that is not asked for may not begin yet, or there is none.
-  not_yet : (s : State) → Kept s → PacedState s → s.loading ≡ Idle → (conservative loads).asks s ≡ NoLoad → s.loads < length missed
+  not_yet : (s : State) → Kept s → PacedState s → s.loading ≡ Idle → (conservative loads).asks s ≡ None → s.loads < length missed
       → s.next < get_or may_begin s.loads 0
   not_yet s k p quiet none more = by_next (drop s.loads loads) refl none
     where
-      by_next : (coming : List Loaded) → drop s.loads loads ≡ coming → earliest coming s ≡ NoLoad → s.next < get_or may_begin s.loads 0
+      by_next : (coming : List Loaded) → drop s.loads loads ≡ coming → earliest coming s ≡ None → s.next < get_or may_begin s.loads 0
       by_next [] e none = absurd (omega (arith, ap length e, length-drop s.loads loads, missed_size))
       by_next (loaded t m q x ∷ later) e none =
           let n : Next s m q x later = next_load s k p quiet t m q x later e in

@@ -6,12 +6,12 @@ use mathlib.Core.Bool.{false}
 use mathlib.Core.List.{List, map}
 use lib.ListN.{length, length-map}
 use borrow.Author.Tests.{le-ltb}
-use Rattle.rules.specs.declared.CallReading.TheVariants.{Taken}
-use Rattle.rules.specs.declared.ListReading.TheVariants.{Listed, Unreadable}
+use Rattle.std.specs.Prelude.{Some, None, Ok}
 use Rattle.rules.specs.declared.Unrolled.{Unrolled}
 use Rattle.rules.specs.Order.{Verdict, clear, met, first_of}
 use Rattle.rules.specs.Job.{Job, Call, job_of, draws_of}
-use Rattle.rules.specs.LoadList.{Event, most_events, head_size, event_size, list_bytes}
+use Rattle.rules.specs.declared.Event.{Event}
+use Rattle.rules.specs.LoadList.{most_events, head_size, event_size, list_bytes}
 use Rattle.rules.specs.Display.{State, going, refused, unless}
 use Rattle.rules.specs.Plans.{last_plan, rule_of, run_plan}
 use Rattle.rules.specs.Refusals.{read_call, bad_list, follows, checked, in_time, short_plan, plan_tests, planned, event_of, written_by, answer_of}
@@ -48,7 +48,7 @@ unfolding planned
 planned_past asked p room e = ap (λ (v : Verdict). unless v (in_time (run_plan (job_of asked) (rule_of (job_of asked) p)))) e
 
 -- A job that is taken, a plan's number and room enough: past all tests,
-pub plan_clear : (asked : Call) (shape : Unrolled) (p room : ℕ) → read_call asked ≡ Taken shape → p ≤ last_plan
+pub plan_clear : (asked : Call) (shape : Unrolled) (p room : ℕ) → read_call asked ≡ Ok shape → p ≤ last_plan
     → head_size + event_size * length (draws_of asked) ≤ room → first_of (plan_tests asked p room) ≡ clear
 unfolding short_plan
 plan_clear asked shape p room taken known enough =
@@ -59,7 +59,7 @@ plan_clear asked shape p room taken known enough =
     end)))
 
 -- and the plan comes to its last state.
-pub planned_done : {P : State → Type 0} (asked : Call) (shape : Unrolled) (p room : ℕ) → read_call asked ≡ Taken shape → p ≤ last_plan
+pub planned_done : {P : State → Type 0} (asked : Call) (shape : Unrolled) (p room : ℕ) → read_call asked ≡ Ok shape → p ≤ last_plan
     → head_size + event_size * length (draws_of asked) ≤ room
     → (d : Done (job_of asked) (rule_of (job_of asked) p) P) → planned asked p room ≡ going d.last
 planned_done asked shape p room taken known enough d =
@@ -70,13 +70,13 @@ pub written_read : (l : List Event) → length l ≤ most_events → bad_list (l
 written_read l few =
     by_test (bad_list (list_bytes l))
     (λ t.
-    let e : Unreadable ≡ Listed (length l) = rw t at (read_back l few).0 in
+    let e : None ≡ Some (length l) = rw t at (read_back l few).0 in
     let impossible : ◌≡◌ {A = ℕ} 0 1 = cc in
     absurd (omega arith))
     (λ t. t)
 
 -- A list in order, checked as the bytes that are written for it, with places enough.
-written_checked : (asked : Call) (shape : Unrolled) (l : List Event) (ticks slots : ℕ) → read_call asked ≡ Taken shape → length l ≤ most_events
+written_checked : (asked : Call) (shape : Unrolled) (l : List Event) (ticks slots : ℕ) → read_call asked ≡ Ok shape → length l ≤ most_events
     → length (draws_of asked) ≤ ticks → length (draws_of asked) ≤ slots → Ruly 0 l
     → checked asked (list_bytes l) ticks slots ≡ follows (job_of asked) l
 written_checked asked shape l ticks slots taken few ticks_room slots_room ordered =
@@ -85,7 +85,7 @@ written_checked asked shape l ticks slots taken few ticks_room slots_room ordere
 
 -- A plan of a job that is taken, with room enough, is accepted; and the check of the bytes that it writes, with places enough, is accepted and
 -- comes to the very same state: the same elapsed, waits and loads, and the same draws.
-pub plan_checked : (asked : Call) (shape : Unrolled) (p room ticks slots : ℕ) → read_call asked ≡ Taken shape → p ≤ last_plan
+pub plan_checked : (asked : Call) (shape : Unrolled) (p room ticks slots : ℕ) → read_call asked ≡ Ok shape → p ≤ last_plan
     → head_size + event_size * length (draws_of asked) ≤ room → length (draws_of asked) ≤ ticks → length (draws_of asked) ≤ slots
     → (s : State) × (planned asked p room ≡ going s) × (checked asked (written_by (planned asked p room)) ticks slots ≡ going s)
 plan_checked asked shape p room ticks slots taken known enough ticks_room slots_room =
@@ -98,7 +98,7 @@ plan_checked asked shape p room ticks slots taken known enough ticks_room slots_
     (d.last, accepted, rw accepted (written_checked asked shape events ticks slots taken few ticks_room slots_room d.in_order ∙ d.replays))
 
 -- So a check of what a plan wrote answers what the plan answered.
-pub plan_answers : (asked : Call) (shape : Unrolled) (p room ticks slots : ℕ) → read_call asked ≡ Taken shape → p ≤ last_plan
+pub plan_answers : (asked : Call) (shape : Unrolled) (p room ticks slots : ℕ) → read_call asked ≡ Ok shape → p ≤ last_plan
     → head_size + event_size * length (draws_of asked) ≤ room → length (draws_of asked) ≤ ticks → length (draws_of asked) ≤ slots
     → answer_of (checked asked (written_by (planned asked p room)) ticks slots) ≡ answer_of (planned asked p room)
 plan_answers asked shape p room ticks slots taken known enough ticks_room slots_room =

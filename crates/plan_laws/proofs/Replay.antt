@@ -9,13 +9,14 @@ use lib.ListN.{length, get_or, drop, length-map, length-append}
 use lib.Seq.{drop_at}
 use lib.Dec.{leb}
 use borrow.Author.Tests.{eq-eqb, ne_eqb, le-ltb, lt-leb}
-use Rattle.rules.specs.declared.MaybeLoad.{MaybeLoad}
-use Rattle.rules.specs.declared.MaybeLoad.TheVariants.{Load, NoLoad}
+use Rattle.std.specs.Prelude.{Option, Some, None}
+use Rattle.rules.specs.declared.Load.{Load}
 use Rattle.rules.specs.declared.Loading.{Loading}
 use Rattle.rules.specs.declared.Loading.TheVariants.{Idle, Under}
 use Rattle.rules.specs.Basics.{stands}
 use Rattle.rules.specs.Job.{Job}
-use Rattle.rules.specs.LoadList.{Event, event, last_tick}
+use Rattle.rules.specs.declared.Event.{Event}
+use Rattle.rules.specs.LoadList.{event, last_tick}
 use Rattle.rules.specs.Display.{State, Run, Rule, going, refused, start, landed_slots, landed_loading, land, beginning, awaited, happening_of, wait}
 use Rattle.rules.specs.Display.{moved, happened, then, tick, finished, run}
 use Rattle.rules.specs.Refusals.{first_bad_tick, due, follow, most_ticks, follows, event_of}
@@ -38,21 +39,21 @@ ordered_ruly {u} {v} few (one {t = t} least most later) =
     rw (le-ltb last_tick t (omega arith), le-ltb t u (omega arith), ordered_ruly few later)
 
 -- What begins in a tick, as an event of it.
-abbrev begun_at : ℕ → MaybeLoad → List Event
-begun_at t NoLoad = []
-begun_at t (Load q x) = event t q x ∷ []
+abbrev begun_at : ℕ → Option Load → List Event
+begun_at t None = []
+begun_at t (Some this) = event t this.slot this.symbol ∷ []
 
 -- A list whose next event is what begins in this tick, all others being later, asks for just that.
-due_now : (t v : ℕ) (a : MaybeLoad) (later : List Event) → Ordered (t + 1) v later → due (begun_at t a ++ later) t ≡ a
+due_now : (t v : ℕ) (a : Option Load) (later : List Event) → Ordered (t + 1) v later → due (begun_at t a ++ later) t ≡ a
 unfolding due
-due_now t v NoLoad later none = refl
-due_now t v NoLoad later (one {t = u} least most r) = rw (ne_eqb u t (λ e. omega arith))
-due_now t v (Load q x) later r = rw (eq-eqb t t refl)
+due_now t v None later none = refl
+due_now t v None later (one {t = u} least most r) = rw (ne_eqb u t (λ e. omega arith))
+due_now t v (Some this) later r = rw (eq-eqb t t refl)
 
-ordered_now : (t v : ℕ) (a : MaybeLoad) (later : List Event) → t < v → Ordered (t + 1) v later → Ordered t v (begun_at t a ++ later)
-ordered_now t v NoLoad later h none = none
-ordered_now t v NoLoad later h (one {t = u} least most r) = one {u = t} {t = u} (omega arith) most r
-ordered_now t v (Load q x) later h r = one {u = t} {t = t} (omega arith) h r
+ordered_now : (t v : ℕ) (a : Option Load) (later : List Event) → t < v → Ordered (t + 1) v later → Ordered t v (begun_at t a ++ later)
+ordered_now t v None later h none = none
+ordered_now t v None later h (one {t = u} least most r) = one {u = t} {t = u} (omega arith) most r
+ordered_now t v (Some this) later h r = one {u = t} {t = t} (omega arith) h r
 
 -- A run that waits with no load under way, until it begins one.
 data Hoping (n : ℕ) (rest slots : List ℕ) (loading : Loading) (loads : ℕ) : Type 0 where
@@ -88,10 +89,10 @@ then_also (going s) f g s' e h = h s refl e
 then_also (refused number detail) f g s' e h = e
 
 -- What begins leaves the draws as they are.
-begins_rest : (job : Job) (b : MaybeLoad) (s z : State) → beginning job b s ≡ going z → s.rest ≡ z.rest
+begins_rest : (job : Job) (b : Option Load) (s z : State) → beginning job b s ≡ going z → s.rest ≡ z.rest
 unfolding beginning
-begins_rest job NoLoad s z e = ap (λ (s : State). s.rest) (let same : s ≡ z = cc in same)
-begins_rest job (Load q x) s z e = ap (λ (s : State). s.rest) (beginning_going job q x s z e).1
+begins_rest job None s z e = ap (λ (s : State). s.rest) (let same : s ≡ z = cc in same)
+begins_rest job (Some this) s z e = ap (λ (s : State). s.rest) (beginning_going job this.slot this.symbol s z e).1
 
 module _ (job : Job) (rule : Rule) where
   abbrev HopingState : ℕ → State → Type 0

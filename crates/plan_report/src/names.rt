@@ -1,27 +1,45 @@
-// The plans by their names: the number of a name, and of the name that an argument of the program has.
+// The plans by their names and their numbers: what an argument of the program names, what a summary prints, what a call is asked with.
 ghost use Rattle.std.specs.Prelude.{◌≡◌};
-ghost use Rattle.plan_report.specs.Names.{plan_named};
+ghost use Rattle.plan_report.specs.Names.{plan_number, plan_name, number_or_none, plan_named};
 
+use rules::Plan;
 use std::rt::Env;
 use std::str;
 
-// A name that no plan has gets 4, a number that no plan has.
-#[tactic(auto, using(crate::proofs::Named::by_name))]
-pub fn plan_of(name: &[u8]) -> u32
-    ensures { result ≡ plan_named name.now }
+// The number by which a call is asked for this plan.
+pub fn number_of(plan: Plan) -> u32
+    ensures { result ≡ plan_number plan }
 {
-    match str::from_utf8(name) {
-        Ok("aggressive") => 0,
-        Ok("conservative") => 1,
-        Ok("opt") => 2,
-        Ok("lru") => 3,
-        _ => 4,
+    plan as u32
+}
+
+pub fn name_of(plan: Plan) -> &'static str
+    ensures { result.now ≡ plan_name plan }
+{
+    match plan {
+        Plan::Aggressive => "aggressive",
+        Plan::Conservative => "conservative",
+        Plan::Opt => "opt",
+        Plan::Lru => "lru",
     }
 }
 
-// The longest name has 12 bytes. An argument that is missing or longer reads as no bytes, the name of no plan.
-pub fn plan_argument<E: Env>(rt: &E, argument: usize) -> u32 {
+#[tactic(auto, using(crate::proofs::Named::by_name))]
+pub fn plan_of(name: &[u8]) -> Option<Plan>
+    ensures { number_or_none result ≡ plan_named name.now }
+{
+    match str::from_utf8(name) {
+        Ok("aggressive") => Some(Plan::Aggressive),
+        Ok("conservative") => Some(Plan::Conservative),
+        Ok("opt") => Some(Plan::Opt),
+        Ok("lru") => Some(Plan::Lru),
+        _ => None,
+    }
+}
+
+// The longest name has 12 bytes. An argument that is missing or longer is the name of no plan.
+pub fn plan_argument<E: Env>(rt: &E, argument: usize) -> Option<Plan> {
     let mut name = [0u8; 12];
-    let length = rt.arg(argument, &mut name).unwrap_or(0);
+    let length = rt.arg(argument, &mut name).ok()?;
     plan_of(&name[..length])
 }

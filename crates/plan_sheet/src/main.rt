@@ -3,6 +3,7 @@
 #![tactic(auto)]
 
 use report::{JOB_ROOM, LONGEST_LIST, Refused};
+use rules::Plan;
 use std::alloc::Global;
 use std::io::Write;
 use std::rt::Env;
@@ -13,11 +14,11 @@ fn write_list<O: Write, E: Write>(
     out: &mut O,
     err: &mut E,
     job: &[u8],
-    plan: u32,
+    plan: Plan,
     rounds: u32,
 ) {
     let mut room = [0u8; LONGEST_LIST];
-    let answer = planner::plan(job, plan, rounds, &mut room);
+    let answer = planner::plan(job, plan_report::number_of(plan), rounds, &mut room);
     if let Some(refused) = Refused::of(answer.number, answer.detail) {
         let _ = writeln!(err, "{refused}");
         return;
@@ -28,13 +29,14 @@ fn write_list<O: Write, E: Write>(
     }
 }
 
-// The number of the plan and the number of rounds, where the arguments are a plan, a file and nothing or the number of rounds.
-fn plan_and_rounds<E: Env>(rt: &E) -> Option<(u32, u32)> {
-    let plan = plan_report::plan_argument(rt, 1);
-    if !report::has_argument(rt, 2) || report::has_argument(rt, 4) || 3 < plan {
+// The plan and the number of rounds, where the arguments are a plan, a file and nothing or that number.
+fn plan_and_rounds<E: Env>(rt: &E) -> Option<(Plan, u32)> {
+    if !report::has_argument(rt, 2) || report::has_argument(rt, 4) {
         return None;
     }
-    Some((plan, report::rounds_argument(rt, 3)?))
+    let plan = plan_report::plan_argument(rt, 1)?;
+    let rounds = report::rounds_argument(rt, 3)?;
+    Some((plan, rounds))
 }
 
 fn main(rt: HostRuntime) {

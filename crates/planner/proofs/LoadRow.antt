@@ -6,13 +6,13 @@ use mathlib.Core.Path.{◌≡◌, refl, sym, ap, ◌∙◌}
 use mathlib.Core.List.{List, [], ◌∷◌, map}
 use lib.ListN.{length, get_or, take, drop, set, length-map, length-set, length-take, drop_of_length-le, get_or-map}
 use lib.Seq.{drop-cons, drop-drop, get_or-take, length-take-le, set_out, take-suc-set}
-use Rattle.rules.specs.declared.MaybeLoad.{MaybeLoad}
-use Rattle.rules.specs.declared.MaybeLoad.TheVariants.{Load, NoLoad}
+use Rattle.std.specs.Prelude.{Option, Some, None}
+use Rattle.rules.specs.declared.Load.{Load}
 use Rattle.rules.specs.declared.Happening.{Happening}
 use Rattle.rules.specs.declared.Happening.TheVariants.{Draw, Wait}
 use Rattle.rules.specs.declared.TickRecord.{TickRecord}
 use Rattle.rules.specs.Job.{Call, job_of, most_draws}
-use Rattle.rules.specs.Display.{State, Loaded, loaded}
+use Rattle.rules.specs.Display.{load, State, Loaded, loaded}
 use Rattle.rules.specs.Plans.{earliest, opt, run_plan, begun_in}
 use Rattle.laws.proofs.Rows.{length-snoc}
 use Rattle.display.specs.declared.state.Display.{Display}
@@ -62,21 +62,21 @@ map_set f (x ∷ l) zero a = refl
 map_set f (x ∷ l) (suc i) a = ap (λ m. f x ∷ m) (map_set f l i a)
 
 -- What a tick begins is noted: no load, one past the last place, or one at its place.
-module _ (b : MaybeLoad) (tick draw at : ℕ) (row : List ℕ) where
-  pub noted_none : b ≡ NoLoad → loads_in row ≡ noted_load b tick draw at (loads_in row)
+module _ (b : Option Load) (tick draw at : ℕ) (row : List ℕ) where
+  pub noted_none : b ≡ None → loads_in row ≡ noted_load b tick draw at (loads_in row)
   noted_none e = rw e
 
-  pub noted_one : (q x n : ℕ) → b ≡ Load q x → load_of n ≡ loaded tick draw q x → loads_in (set row at n) ≡ noted_load b tick draw at (loads_in row)
+  pub noted_one : (q x n : ℕ) → b ≡ Some (load q x) → load_of n ≡ loaded tick draw q x → loads_in (set row at n) ≡ noted_load b tick draw at (loads_in row)
   noted_one q x n e is = rw e (map_set load_of row at n ∙ ap (set (loads_in row) at) is)
 
-  pub noted_past : (q x : ℕ) → b ≡ Load q x → length row ≤ at → loads_in row ≡ noted_load b tick draw at (loads_in row)
+  pub noted_past : (q x : ℕ) → b ≡ Some (load q x) → length row ≤ at → loads_in row ≡ noted_load b tick draw at (loads_in row)
   noted_past q x e over =
       let all : length (loads_in row) ≡ length row = length-map row load_of in
       rw e (sym (set_out (loads_in row) at (loaded tick draw q x) (omega arith)))
 
-length-noted : (b : MaybeLoad) (tick draw at : ℕ) (l : List Loaded) → length (noted_load b tick draw at l) ≡ length l
-length-noted NoLoad tick draw at l = refl
-length-noted (Load q x) tick draw at l = length-set l at (loaded tick draw q x)
+length-noted : (b : Option Load) (tick draw at : ℕ) (l : List Loaded) → length (noted_load b tick draw at l) ≡ length l
+length-noted None tick draw at l = refl
+length-noted (Some this) tick draw at l = length-set l at (loaded tick draw this.slot this.symbol)
 
 -- What is noted at a place changes nothing after it.
 drop_past : (m n : ℕ) (l : List Loaded) (e : Loaded) → drop (suc m) (take n (set l m e)) ≡ drop (suc m) (take n l)
@@ -103,10 +103,10 @@ module _ (plan : ℕ) (asked : Call) (orders : ℕ) where
 
   module _ (d : Display) (h : History) (row row' : List ℕ) (many : length h.begun ≡ d.loads)
       (kept : RowKept plan asked orders h.begun d.loads row) where
-    row_more : (b : MaybeLoad) (m : ℕ) → loads_in row' ≡ noted_load b d.tick d.next d.loads (loads_in row)
+    row_more : (b : Option Load) (m : ℕ) → loads_in row' ≡ noted_load b d.tick d.next d.loads (loads_in row)
         → length (history_begun d b h).begun ≡ m
         → RowKept plan asked orders (history_begun d b h).begun m row'
-    row_more NoLoad m e many' =
+    row_more None m e many' =
         let same : m ≡ d.loads = sym many' ∙ many in
         let places : length row' ≡ length row = sym (length-map row' load_of) ∙ ap length e ∙ length-map row load_of in
         record {
@@ -114,8 +114,8 @@ module _ (plan : ℕ) (asked : Call) (orders : ℕ) where
           to_come = λ one. rw (same, e) (kept.to_come one);
           places = places ∙ kept.places;
         }
-    row_more (Load q x) m e many' =
-        let l = loaded d.tick d.next q x in
+    row_more (Some this) m e many' =
+        let l = loaded d.tick d.next this.slot this.symbol in
         let same : m ≡ suc d.loads = sym many' ∙ length-snoc h.begun l ∙ rw (many, add-one) in
         let all : length (loads_in row) ≡ length row = length-map row load_of in
         let places : length row' ≡ length row = sym (length-map row' load_of) ∙ ap length e ∙ length-set (loads_in row) d.loads l ∙ all in

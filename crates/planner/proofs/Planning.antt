@@ -7,9 +7,9 @@ use mathlib.Core.List.{List, [], map}
 use lib.ListN.{length, take, length-take}
 use lib.Dec.{ltb}
 use borrow.Author.Tests.{ltb-false}
+use Rattle.std.specs.Prelude.{Result, Ok}
+use Rattle.rules.specs.declared.refusal.Refusal.{Refusal}
 use Rattle.rules.specs.declared.Answer.{Answer}
-use Rattle.rules.specs.declared.CallReading.{CallReading}
-use Rattle.rules.specs.declared.CallReading.TheVariants.{Taken}
 use Rattle.rules.specs.declared.Unrolled.{Unrolled}
 use Rattle.rules.specs.Order.{clear, met}
 use Rattle.rules.specs.Job.{Call, call, draws_of, job_of, most_draws}
@@ -32,19 +32,19 @@ use Rattle.planner.specs.Runs.{run_of, Ended, HasRoom, CarriedOut}
 -- ---- The order of the refusals, as the code meets it
 
 -- The test of the lent room, as the code has it from the shape that was read.
-pub room_test_lem : (asked : Call) (reading : CallReading) (shape : Unrolled) (room : ℕ) (r : Bool) → reading ≡ read_call asked → reading ≡ Taken shape
+pub room_test_lem : (asked : Call) (reading : Result Unrolled Refusal) (shape : Unrolled) (room : ℕ) (r : Bool) → reading ≡ read_call asked → reading ≡ Ok shape
     → r ≡ ltb room (head_size + event_size * shape.draws) → r ≡ short_plan asked room
 unfolding short_plan
 room_test_lem asked reading shape room r is taken e = rw (limits asked shape (sym is ∙ taken)).many_draws e
 
 -- What the run asks for is known past the tests.
-pub roomy : (job : List ℕ) (rounds : ℕ) (reading : CallReading) (shape : Unrolled) (room : List ℕ) (r : Bool) → reading ≡ read_call (call job rounds)
-    → reading ≡ Taken shape → r ≡ ltb (length room) (head_size + event_size * shape.draws) → r ≡ false
+pub roomy : (job : List ℕ) (rounds : ℕ) (reading : Result Unrolled Refusal) (shape : Unrolled) (room : List ℕ) (r : Bool)
+    → reading ≡ read_call (call job rounds) → reading ≡ Ok shape → r ≡ ltb (length room) (head_size + event_size * shape.draws) → r ≡ false
     → HasRoom (call job shape.rounds) shape room
 roomy job rounds reading shape room r is taken e fails =
-    let read : read_call (call job rounds) ≡ Taken shape = sym is ∙ taken in
+    let read : read_call (call job rounds) ≡ Ok shape = sym is ∙ taken in
     record {
-      taken = subst (λ (a : Call). read_call a ≡ Taken shape) (same_call (call job rounds) shape read) read;
+      taken = subst (λ (a : Call). read_call a ≡ Ok shape) (same_call (call job rounds) shape read) read;
       enough = ltb-false _ _ (sym e ∙ fails);
     }
 
@@ -57,7 +57,7 @@ module _ (asked : Call) (plan : ℕ) (room : List ℕ) (answer : Answer) where
       (answers ∙ ap answer_of (sym is), rw is)
 
   -- Past all tests it is carried out.
-  pub carries_out : (reading : CallReading) (shape : Unrolled) (room' : List ℕ) → reading ≡ read_call asked → reading ≡ Taken shape
+  pub carries_out : (reading : Result Unrolled Refusal) (shape : Unrolled) (room' : List ℕ) → reading ≡ read_call asked → reading ≡ Ok shape
       → CarriedOut (call asked.job shape.rounds) plan answer room room'
       → Gives (plan_tests asked plan (length room)) clear
       → (answer ≡ answer_of (planned asked plan (length room))) × (room' ≡ lent (written_by (planned asked plan (length room))) room)
@@ -87,7 +87,7 @@ last_in_time : (s : State) → s.rest ≡ [] → in_time (going s) ≡ going s
 last_in_time s e = ap (λ (l : List ℕ). cond (finished l) (going s) (refused 15 0)) e
 
 -- A run that ended is over in time, and its loads are those of the rules.
-module _ (asked : Call) (shape : Unrolled) (taken : read_call asked ≡ Taken shape) (plan : ℕ) (r : Ran) (held : List ℕ) (h : History)
+module _ (asked : Call) (shape : Unrolled) (taken : read_call asked ≡ Ok shape) (plan : ℕ) (r : Ran) (held : List ℕ) (h : History)
     (ends : run_of asked plan ≡ cond r.over (going (view held h r.display)) (refused 15 0)) where
   done : Done (job_of asked) (rule_of (job_of asked) plan) Any
   done = plan_done (job_of asked) (proper asked shape taken) plan
@@ -108,7 +108,7 @@ module _ (asked : Call) (shape : Unrolled) (taken : read_call asked ≡ Taken sh
   begun_by_plan : h.begun ≡ begun_in (run_plan (job_of asked) (rule_of (job_of asked) plan))
   begun_by_plan = ap (λ (s : State). s.begun) last_view ∙ ap begun_in (sym done.ran)
 
-module _ (asked : Call) (shape : Unrolled) (taken : read_call asked ≡ Taken shape) (plan : ℕ) (r : Ran) (loads : List ℕ)
+module _ (asked : Call) (shape : Unrolled) (taken : read_call asked ≡ Ok shape) (plan : ℕ) (r : Ran) (loads : List ℕ)
     (run : Ended plan asked r loads) where
   pub few_loads : r.display.loads ≤ most_draws
   few_loads =

@@ -7,13 +7,13 @@ use mathlib.Core.List.{List, [], ◌∷◌}
 use lib.ListN.{length, get_or, drop}
 use lib.Dec.{leb}
 use borrow.Author.Tests.{eq-eqb, le-leb, lt-leb}
-use Rattle.rules.specs.declared.MaybeLoad.{MaybeLoad}
-use Rattle.rules.specs.declared.MaybeLoad.TheVariants.{NoLoad}
+use Rattle.std.specs.Prelude.{Option, None}
+use Rattle.rules.specs.declared.Load.{Load}
 use Rattle.rules.specs.declared.Unrolled.{Unrolled}
 use Rattle.rules.specs.Basics.{number16}
 use Rattle.rules.specs.Job.{Job, Call, starting_symbols, draws_of, draws_at, job_of}
 use Rattle.rules.specs.LoadList.{last_tick}
-use Rattle.rules.specs.Display.{State, Rule, Loaded, loaded, going, refused, then, start, land, idle, beginning, happened, record_of, tick}
+use Rattle.rules.specs.Display.{load, State, Rule, Loaded, loaded, going, refused, then, start, land, idle, beginning, happened, record_of, tick}
 use Rattle.rules.specs.Plans.{asking, earliest, opt, run_plan, begun_in, rule_of}
 use Rattle.rules.specs.Refusals.{in_time}
 use Rattle.laws.proofs.Rows.{length-snoc}
@@ -44,7 +44,7 @@ same_tick : (plan : ℕ) (job : Job) (order : Order) (s : State)
 unfolding tick
 same_tick zero job order s e = refl
 same_tick (suc zero) job order s e =
-    ap (λ (x : MaybeLoad). then (beginning job x (land s)) (λ b. happened (record_of x b).happening true b)) (e refl)
+    ap (λ (x : Option Load). then (beginning job x (land s)) (λ b. happened (record_of x b).happening true b)) (e refl)
 same_tick (suc (suc zero)) job order s e = refl
 same_tick (suc (suc (suc plan))) job order s e = refl
 
@@ -59,7 +59,7 @@ ruled plan job order held held' d r ordered ticks =
     }
 
 -- What is asked for with the landed display at hand is what the plan asks for in its state.
-pub asked_landed : {asked : Call} {shape : Unrolled} (plan : ℕ) (order : Order) (row held : List ℕ) (d l : Display) (symbol : ℕ) (load : MaybeLoad)
+pub asked_landed : {asked : Call} {shape : Unrolled} (plan : ℕ) (order : Order) (row held : List ℕ) (d l : Display) (symbol : ℕ) (load : Option Load)
     → Limits asked shape
     → LandKeeps d l
     → d.next < shape.draws
@@ -80,11 +80,11 @@ asked_landed {asked} plan order row held d l symbol load limits kept within read
     }
 
 -- While a load is under way no plan asks for another.
-earliest_busy : (l : List Loaded) (s : State) → idle s.loading ≡ false → earliest l s ≡ NoLoad
+earliest_busy : (l : List Loaded) (s : State) → idle s.loading ≡ false → earliest l s ≡ None
 earliest_busy [] s busy = refl
 earliest_busy (loaded t d q x ∷ later) s busy = rw busy
 
-rule_busy : (plan : ℕ) (job : Job) (s : State) → idle s.loading ≡ false → (rule_of job plan).asks s ≡ NoLoad
+rule_busy : (plan : ℕ) (job : Job) (s : State) → idle s.loading ≡ false → (rule_of job plan).asks s ≡ None
 rule_busy zero job s busy = rw busy
 rule_busy (suc zero) job s busy = earliest_busy (drop s.loads (begun_in (run_plan job (opt job)))) s busy
 rule_busy (suc (suc zero)) job s busy = rw busy

@@ -6,7 +6,8 @@ use mathlib.Core.Path.{◌≡◌, refl, sym, ap, ◌∙◌}
 use mathlib.Core.List.{List, [], ◌∷◌, ◌++◌, map, append-nil, append_assoc}
 use lib.ListN.{length, get_or, take, drop, length-append, length-map, take-append-drop, get_or-map}
 use lib.Seq.{take_at, drop_at, drop-drop, take-suc, take_all, length-take-le}
-use Rattle.rules.specs.LoadList.{Event, event, event_at, event_bytes, head_bytes, events_bytes, list_bytes, put_head, put_event}
+use Rattle.rules.specs.declared.Event.{Event}
+use Rattle.rules.specs.LoadList.{event, event_at, event_bytes, head_bytes, events_bytes, list_bytes, put_head, put_event}
 use Rattle.rules.specs.Display.{loaded}
 use Rattle.rules.specs.Refusals.{event_of, lent}
 use Rattle.laws.proofs.Writing.{put_after, put_front, length-put, events_snoc}

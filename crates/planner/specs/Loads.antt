@@ -1,7 +1,6 @@
 -- The loads of a run as the code keeps them: a row of numbers, each of which holds one load.
-use Rattle.std.specs.Prelude.{ℕ, ◌+◌, ◌*◌, ◌/◌, ◌%◌, ◌≤◌, List, map, length, take, set}
-use Rattle.rules.specs.declared.MaybeLoad.{MaybeLoad}
-use Rattle.rules.specs.declared.MaybeLoad.TheVariants.{Load, NoLoad}
+use Rattle.std.specs.Prelude.{ℕ, ◌+◌, ◌*◌, ◌/◌, ◌%◌, ◌≤◌, List, map, length, take, set, Option, Some, None}
+use Rattle.rules.specs.declared.Load.{Load}
 use Rattle.rules.specs.LoadList.{head_size, event_size}
 use Rattle.rules.specs.Display.{Loaded, loaded}
 
@@ -17,9 +16,9 @@ abbrev pub first_loads : ℕ → List ℕ → List Loaded
 first_loads count row = take count (loads_in row)
 
 -- The loads with the one that a tick begins at its place; a tick in which none begins leaves them as they are.
-abbrev pub noted_load : MaybeLoad → ℕ → ℕ → ℕ → List Loaded → List Loaded
-noted_load NoLoad tick draw at loads = loads
-noted_load (Load q x) tick draw at loads = set loads at (loaded tick draw q x)
+abbrev pub noted_load : Option Load → ℕ → ℕ → ℕ → List Loaded → List Loaded
+noted_load None tick draw at loads = loads
+noted_load (Some load) tick draw at loads = set loads at (loaded tick draw load.slot load.symbol)
 
 -- Room for a list of this many events, and a row that has as many loads.
 pub record Fitting (count : ℕ) (room row : List ℕ) : Type 0 where

@@ -1,7 +1,6 @@
 -- What a tick of a plan, the waits after it and a whole run ask for and ensure, and what comes of a plan.
-use Rattle.std.specs.Prelude.{ℕ, ◌+◌, ◌*◌, ◌-◌, ◌≤◌, ◌<◌, ◌≡◌, cond, List, length}
+use Rattle.std.specs.Prelude.{ℕ, ◌+◌, ◌*◌, ◌-◌, ◌≤◌, ◌<◌, ◌≡◌, cond, List, length, Ok}
 use Rattle.rules.specs.declared.Answer.{Answer}
-use Rattle.rules.specs.declared.CallReading.TheVariants.{Taken}
 use Rattle.rules.specs.declared.Unrolled.{Unrolled}
 use Rattle.rules.specs.Job.{Call, starting_symbols, draws_of, job_of, most_draws}
 use Rattle.rules.specs.LoadList.{head_size, event_size}
@@ -32,7 +31,7 @@ pub record LoadUnderWay (d : Display) (m : ℕ) : Type 0 where
 
 -- A job that was taken with this shape, and a row of as many places as a job has draws at most.
 pub record HasPlaces (asked : Call) (shape : Unrolled) (loads : List ℕ) : Type 0 where
-  pub taken : read_call asked ≡ Taken shape
+  pub taken : read_call asked ≡ Ok shape
   pub places : length loads ≡ most_draws
 
 -- What the run of a plan comes to: its last state, or refusal 15 where that is not reached in time.
@@ -66,7 +65,7 @@ pub record Ended (plan : ℕ) (asked : Call) (r : Ran) (loads : List ℕ) : Type
 
 -- A job that was taken with this shape, and room for a list of as many events as draws.
 pub record HasRoom (asked : Call) (shape : Unrolled) (room : List ℕ) : Type 0 where
-  pub taken : read_call asked ≡ Taken shape
+  pub taken : read_call asked ≡ Ok shape
   pub enough : head_size + event_size * shape.draws ≤ length room
 
 -- The answer to the run of a plan, and what the lent room holds then.

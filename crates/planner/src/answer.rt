@@ -10,7 +10,7 @@ use crate::run::{Ran, run_plan};
 use crate::write::write_list;
 use choice::row_of;
 use display::{accepted, refusal};
-use rules::{Answer, CallReading, MOST_DRAWS, Unrolled};
+use rules::{Answer, MOST_DRAWS, Unrolled};
 
 // The run of a plan from the start of the job.
 fn run_from_start(
@@ -80,7 +80,7 @@ pub fn plan(job: &[u8], plan: u32, rounds: u32, room: &mut [u8]) -> Answer
     ensures writes { room.new ≡ lent (written_by (planned (call job.now rounds) plan (length room.old))) room.old }
 {
     let reading = sheet::read_call(job, rounds);
-    let CallReading::Taken(shape) = reading else {
+    let Ok(shape) = reading else {
         return refusal(sheet::call_number(reading), 0);
     };
     if unknown(plan) {

@@ -7,7 +7,7 @@ ghost use Rattle.choice.specs.Asks.{order_asks};
 ghost use Rattle.planner.specs.Loads.{load_of, loads_in, first_loads, noted_load};
 
 use choice::Order;
-use rules::MaybeLoad;
+use rules::Load;
 
 // A load on record: the tick in which it begins, the draw that is next in that tick, the slot and the symbol.
 #[derive(Drop)]
@@ -64,16 +64,16 @@ pub fn order_at(loads: &[u64], orders: u32, at: u32) -> Order
 
 // Notes the load that begins in a tick, if one does, as the load of this number. A plan begins at most one load to a draw, so a row of
 // as many places as draws has a place for each.
-pub fn note(loads: &mut [u64], at: u32, tick: u32, draw: u16, begun: MaybeLoad)
+pub fn note(loads: &mut [u64], at: u32, tick: u32, draw: u16, begun: Option<Load>)
     requires { tick ≤ last_tick }
     ensures { loads_in loads.new ≡ noted_load begun tick draw at (loads_in loads.old) }
 {
-    let MaybeLoad::Load { slot, symbol } = begun else {
+    let Some(load) = begun else {
         return;
     };
     let place = at as usize;
     if loads.len() <= place {
         return;
     }
-    loads[place] = packed(tick, draw, slot, symbol);
+    loads[place] = packed(tick, draw, load.slot, load.symbol);
 }

@@ -2,8 +2,8 @@
 -- single wait: document 02, One)
 -- What is to begin in a tick is asked of a rule: a load list is one, and so is each plan. The display is the same for all.
 use Rattle.std.specs.Prelude.{ℕ, zero, suc, ◌+◌, ◌-◌, max, Bool, true, false, cond, not, ◌||◌, List, [], ◌∷◌, ◌++◌, get_or, drop, set, eqb, ltb}
-use Rattle.rules.specs.declared.MaybeLoad.{MaybeLoad}
-use Rattle.rules.specs.declared.MaybeLoad.TheVariants.{Load, NoLoad}
+use Rattle.std.specs.Prelude.{Option, Some, None}
+use Rattle.rules.specs.declared.Load.{Load}
 use Rattle.rules.specs.declared.Loading.{Loading}
 use Rattle.rules.specs.declared.Loading.TheVariants.{Idle, Under}
 use Rattle.rules.specs.declared.Cause.{Cause}
@@ -22,6 +22,10 @@ pub data Drawn : Type 0 where
 -- A load that was begun: its tick, the next draw number at that tick, its slot and its symbol.
 pub data Loaded : Type 0 where
   loaded : (tick draw slot symbol : ℕ) → Loaded
+
+-- A load: this slot begins to load this symbol.
+abbrev pub load : ℕ → ℕ → Load
+load slot symbol = record { slot = slot; symbol = symbol }
 
 -- The display between two ticks.
 --     tick      the ticks that have passed, so the number of the tick that comes; at the end of a run it is elapsed
@@ -77,7 +81,7 @@ unless (met number detail) r = refused number detail
 
 -- A rule for what begins: what it asks for in a tick, and whether, at a wait with no load under way, it will ask for nothing any more.
 pub record Rule : Type 0 where
-  pub asks : State → MaybeLoad
+  pub asks : State → Option Load
   pub done : State → Bool
 
 -- Step 1. A load begun F ticks ago puts its symbol into its slot; any other load under way is a tick nearer to its end.
@@ -146,15 +150,15 @@ abbrev pub load_refusal : Job → ℕ → ℕ → State → ℕ
 load_refusal job q x s = number_in (first_of (load_tests job q x s))
 
 -- What begins, if anything does.
-unfoldable pub beginning : Job → MaybeLoad → State → Run
+unfoldable pub beginning : Job → Option Load → State → Run
 unfolding first_of
-beginning job NoLoad s = going s
-beginning job (Load q x) s = unless (first_of (load_tests job q x s)) (going (begin job q x s))
+beginning job None s = going s
+beginning job (Some l) s = unless (first_of (load_tests job l.slot l.symbol s)) (going (begin job l.slot l.symbol s))
 
 -- The state once the load that is asked for has begun, where one is.
-abbrev pub begun_by : Job → MaybeLoad → State → State
-begun_by job NoLoad s = s
-begun_by job (Load q x) s = begin job q x s
+abbrev pub begun_by : Job → Option Load → State → State
+begun_by job None s = s
+begun_by job (Some l) s = begin job l.slot l.symbol s
 
 -- Step 3. The symbol of the next draw, and what happens: it is drawn from the first slot that holds it, or the tick is a wait.
 abbrev pub awaited : State → ℕ
@@ -223,11 +227,11 @@ then (going s) f = f s
 then (refused number detail) f = refused number detail
 
 -- A tick on record: the load begun in it, and what happened once it had begun. So a load begun in this tick counts as under way.
-abbrev pub record_of : MaybeLoad → State → TickRecord
+abbrev pub record_of : Option Load → State → TickRecord
 record_of begun s = record { begun = begun; happening = happening_of s }
 
 -- What is to begin is asked once a load that ends in this tick is in its slot, so the next load may begin in the same tick.
-abbrev pub asked : Rule → State → MaybeLoad
+abbrev pub asked : Rule → State → Option Load
 asked rule s = rule.asks (land s)
 
 -- The record of the tick that comes, where it is not refused.

@@ -4,6 +4,7 @@ pub mod Job
 pub mod LoadList
 pub mod Display
 pub mod Plans
+pub mod Refusing
 pub mod Refusals
 pub mod Why
 pub mod Text

@@ -1,12 +1,11 @@
 -- The load list as bytes: its head, its events, and the list written out. (Document 01, "The job, byte for byte", second half)
-use Rattle.std.specs.Prelude.{ℕ, zero, suc, ◌+◌, ◌*◌, Bool, cond, List, [], ◌∷◌, ◌++◌, length, get_or, take, drop, ltb}
-use Rattle.rules.specs.declared.EventReading.{EventReading}
-use Rattle.rules.specs.declared.EventReading.TheVariants as reading
+use Rattle.std.specs.Prelude.{ℕ, zero, suc, ◌+◌, ◌*◌, Bool, cond, List, [], ◌∷◌, ◌++◌, length, get_or, take, drop, ltb, Option, Some, None}
+use Rattle.rules.specs.declared.Event.{Event}
 use Rattle.rules.specs.Basics.{number16, number32, bytes16, bytes32}
 
 -- An event: at this tick this slot begins to load this symbol.
-pub data Event : Type 0 where
-  event : (tick slot symbol : ℕ) → Event
+abbrev pub event : ℕ → ℕ → ℕ → Event
+event tick slot symbol = record { tick = tick; slot = slot; symbol = symbol }
 
 -- The limits: at most 4,096 events, and no tick above 8,388,607.
 abbrev pub most_events : ℕ
@@ -38,9 +37,9 @@ symbol_in part = number16 part 5
 abbrev pub event_in : List ℕ → Event
 event_in part = event (tick_in part) (slot_in part) (symbol_in part)
 
-abbrev pub read_event : List ℕ → EventReading
+abbrev pub read_event : List ℕ → Option Event
 read_event part =
-    cond (ltb (length part) event_size) reading.Short (reading.Event (tick_in part) (slot_in part) (symbol_in part))
+    cond (ltb (length part) event_size) None (Some (event (tick_in part) (slot_in part) (symbol_in part)))
 
 -- The first m events, one after the other, from the part that begins at the first.
 unfoldable pub events_in : ℕ → List ℕ → List Event
@@ -52,7 +51,7 @@ events_of list = events_in (count_of list) (drop head_size list)
 
 -- The same the other way: the bytes of an event, of a head for m events, and of a whole list.
 abbrev pub event_bytes : Event → List ℕ
-event_bytes (event t q x) = bytes32 t ++ (q ∷ bytes16 x)
+event_bytes e = bytes32 e.tick ++ (e.slot ∷ bytes16 e.symbol)
 
 abbrev pub head_bytes : ℕ → List ℕ
 head_bytes m = bytes32 (3 + event_size * m) ++ (1 ∷ bytes16 m)

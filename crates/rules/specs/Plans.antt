@@ -1,12 +1,12 @@
 -- The four plans, each as a rule for what begins in a tick. (Document 01, "The four plans"; which symbol opt gives up of those never drawn
 -- again: document 02, Four)
 use Rattle.std.specs.Prelude.{ℕ, zero, suc, ◌+◌, max, true, cond, not, ◌&&◌, List, [], ◌∷◌, ◌++◌, reverse, length, get_or, take, drop, eqb, ltb, leb}
-use Rattle.rules.specs.declared.MaybeLoad.{MaybeLoad}
-use Rattle.rules.specs.declared.MaybeLoad.TheVariants.{Load, NoLoad}
+use Rattle.std.specs.Prelude.{Option, Some, None}
+use Rattle.rules.specs.declared.Load.{Load}
 use Rattle.rules.specs.Basics.{place, stands}
 use Rattle.rules.specs.Job.{Job, free}
 use Rattle.rules.specs.LoadList.{last_tick}
-use Rattle.rules.specs.Display.{State, Run, Rule, Loaded, loaded, going, refused, start, loadable, idle, awaited, run}
+use Rattle.rules.specs.Display.{load, State, Run, Rule, Loaded, loaded, going, refused, start, loadable, idle, awaited, run}
 
 -- How far along a row of draws a symbol comes up. One that never does is further than all, and a free slot further still,
 -- so that it is taken before any held symbol.
@@ -47,16 +47,16 @@ missing slots [] = 0
 missing slots (x ∷ rest) = cond (stands x slots) (suc (missing slots rest)) 0
 
 -- A plan never looks at the clock: where it lets a draw wait with no load under way, it would let it wait for ever.
-abbrev pub asking : (State → MaybeLoad) → Rule
+abbrev pub asking : (State → Option Load) → Rule
 asking asks = record { asks = asks; done = λ s. true }
 
 -- Plan 0, aggressive: with no load under way, load for the first missing draw, at place p, into the furthest slot, unless
 -- what would go out is drawn before p.
-abbrev pub aggressive_at : ℕ → ℕ → State → MaybeLoad
+abbrev pub aggressive_at : ℕ → ℕ → State → Option Load
 aggressive_at p q s =
     cond (idle s.loading && ltb p (length s.rest) && leb p (rank (ahead s) (get_or s.slots q 0)))
-    (Load q (get_or s.rest p 0))
-    NoLoad
+    (Some (load q (get_or s.rest p 0)))
+    None
 
 abbrev pub aggressive : Job → Rule
 aggressive job = asking (λ s. aggressive_at (missing s.slots s.rest) (furthest job (ahead s) s.slots) s)
@@ -64,7 +64,7 @@ aggressive job = asking (λ s. aggressive_at (missing s.slots s.rest) (furthest 
 -- Plans 2 and 3 load in a tick whose draw would wait with no load under way, and only then. They differ in the slot they take.
 abbrev pub on_demand : (State → ℕ) → Rule
 on_demand slot =
-    asking (λ s. cond (idle s.loading && not (stands (awaited s) s.slots)) (Load (slot s) (awaited s)) NoLoad)
+    asking (λ s. cond (idle s.loading && not (stands (awaited s) s.slots)) (Some (load (slot s) (awaited s))) None)
 
 -- The slot that opt takes, and so conservative too.
 abbrev pub opt_slot : Job → State → ℕ
@@ -87,12 +87,12 @@ begun_in (refused number detail) = []
 
 -- Plan 1, conservative: the loads of opt in their order, slots and all. Each begins with no load under way, as soon as the symbol
 -- that goes out is not drawn again before the miss for which opt made that load. A free slot's content is never drawn.
-abbrev pub earliest_at : ℕ → ℕ → ℕ → State → MaybeLoad
+abbrev pub earliest_at : ℕ → ℕ → ℕ → State → Option Load
 earliest_at miss q x s =
-    cond (idle s.loading && leb miss (s.next + place (get_or s.slots q 0) (ahead s))) (Load q x) NoLoad
+    cond (idle s.loading && leb miss (s.next + place (get_or s.slots q 0) (ahead s))) (Some (load q x)) None
 
-abbrev pub earliest : List Loaded → State → MaybeLoad
-earliest [] s = NoLoad
+abbrev pub earliest : List Loaded → State → Option Load
+earliest [] s = None
 earliest (loaded t miss q x ∷ later) s = earliest_at miss q x s
 
 abbrev pub conservative : List Loaded → Rule

@@ -1,22 +1,19 @@
 -- The refusals, their order, and what a plan and a check answer and leave in lent memory. (Document 01, "Refusal numbers")
-use Rattle.std.specs.Prelude.{ℕ, suc, ◌+◌, ◌*◌, ◌-◌, ◌/◌, Bool, false, cond, not, ◌&&◌, ◌||◌, List, [], ◌∷◌, ◌++◌, map, length, get_or, drop, eqb, ltb, leb}
+use Rattle.std.specs.Prelude.{ℕ, suc, ◌+◌, ◌*◌, ◌-◌, ◌/◌, Bool, false, cond, not, ◌&&◌, ◌||◌, List, [], ◌∷◌, ◌++◌, map, length, get_or, drop, eqb}
+use Rattle.std.specs.Prelude.{ltb, leb, Option, Some, None, Result, Ok, Err}
+use Rattle.rules.specs.declared.refusal.Refusal.{Refusal}
 use Rattle.rules.specs.declared.Answer.{Answer}
-use Rattle.rules.specs.declared.MaybeLoad.{MaybeLoad}
-use Rattle.rules.specs.declared.MaybeLoad.TheVariants.{Load, NoLoad}
-use Rattle.rules.specs.declared.CallReading.{CallReading}
-use Rattle.rules.specs.declared.CallReading.TheVariants.{Taken, Refused}
-use Rattle.rules.specs.declared.EventReading.{EventReading}
-use Rattle.rules.specs.declared.EventReading.TheVariants as reading
-use Rattle.rules.specs.declared.ListReading.{ListReading}
-use Rattle.rules.specs.declared.ListReading.TheVariants.{Listed, Unreadable}
+use Rattle.rules.specs.declared.Load.{Load}
 use Rattle.rules.specs.declared.Shape.{Shape}
+use Rattle.rules.specs.declared.Event.{Event}
 use Rattle.rules.specs.declared.Unrolled.{Unrolled}
 use Rattle.rules.specs.Basics.{stands, number32, bytes32}
+use Rattle.rules.specs.Refusing.{refusal_number, call_refusal}
 use Rattle.rules.specs.Order.{Test, test, Verdict, clear, met, first_of}
 use Rattle.rules.specs.Job.{Job, Call, free, most_slots, most_load_time, most_draws, shape_of, starting_symbols, drawn_symbols, draws_of}
 use Rattle.rules.specs.Job.{unrolled, job_of}
-use Rattle.rules.specs.LoadList.{Event, event, most_events, last_tick, head_size, event_size, count_of, events_of, list_bytes}
-use Rattle.rules.specs.Display.{State, Run, Rule, Drawn, drawn, Loaded, loaded, going, refused, unless, then, start, finished, run}
+use Rattle.rules.specs.LoadList.{event, most_events, last_tick, head_size, event_size, count_of, events_of, list_bytes}
+use Rattle.rules.specs.Display.{load, State, Run, Rule, Drawn, drawn, Loaded, loaded, going, refused, unless, then, start, finished, run}
 use Rattle.rules.specs.Plans.{last_plan, rule_of, run_plan}
 
 -- ---- A job: refusals 1 to 5
@@ -70,18 +67,18 @@ bad_rounds asked = ltb asked.rounds 1 || ltb most_draws (unrolled asked).draws
 unfoldable pub call_tests : Call → List Test
 call_tests asked = job_tests asked.job ++ (test 17 0 (bad_rounds asked) ∷ [])
 
--- It is taken with its size, or refused with the number of the first of these tests that holds. The detail of each is 0.
-abbrev pub read_as : Verdict → Unrolled → CallReading
-read_as clear size = Taken size
-read_as (met number detail) size = Refused number
+-- It is taken with its size, or refused by the first of these tests that holds. The detail of each is 0.
+abbrev pub read_as : Verdict → Unrolled → Result Unrolled Refusal
+read_as clear size = Ok size
+read_as (met number detail) size = Err (call_refusal number)
 
-abbrev pub read_call : Call → CallReading
+abbrev pub read_call : Call → Result Unrolled Refusal
 read_call asked = read_as (first_of (call_tests asked)) (unrolled asked)
 
 -- Document 01's number for what reading a call found.
-abbrev pub call_number : CallReading → ℕ
-call_number (Taken size) = 0
-call_number (Refused number) = number
+abbrev pub call_number : Result Unrolled Refusal → ℕ
+call_number (Ok size) = 0
+call_number (Err refusal) = refusal_number refusal
 
 -- ---- A load list: refusals 8 and 9
 
@@ -95,24 +92,24 @@ bad_list list =
     || ltb most_events (count_of list)
     || not (eqb (number32 list 0) (3 + event_size * count_of list))
 
-abbrev pub read_list : List ℕ → ListReading
-read_list list = cond (bad_list list) Unreadable (Listed (count_of list))
+abbrev pub read_list : List ℕ → Option ℕ
+read_list list = cond (bad_list list) None (Some (count_of list))
 
 -- Document 01's number for what reading a list found, and for what reading an event found: too few bytes for an event are met only in
 -- bytes that are no list.
-abbrev pub list_number : ListReading → ℕ
-list_number (Listed m) = 0
-list_number Unreadable = 8
+abbrev pub list_number : Option ℕ → ℕ
+list_number (Some m) = 0
+list_number None = 8
 
-abbrev pub event_number : EventReading → ℕ
-event_number (reading.Event t q x) = 0
-event_number reading.Short = 8
+abbrev pub event_number : Option Event → ℕ
+event_number (Some e) = 0
+event_number None = 8
 
 -- 9. The first event whose tick is over the limit or not above the tick before it, or the number of events where there is none.
 -- `least` is the lowest tick that the event may have.
 unfoldable pub first_bad_tick : ℕ → List Event → ℕ
 first_bad_tick least [] = 0
-first_bad_tick least (event t q x ∷ l) = cond (ltb last_tick t || ltb t least) 0 (suc (first_bad_tick (t + 1) l))
+first_bad_tick least (e ∷ l) = cond (ltb last_tick e.tick || ltb e.tick least) 0 (suc (first_bad_tick (e.tick + 1) l))
 
 abbrev pub tick_test : List Event → Test
 tick_test events = test 9 (first_bad_tick 0 events) (ltb (first_bad_tick 0 events) (length events))
@@ -120,9 +117,9 @@ tick_test events = test 9 (first_bad_tick 0 events) (ltb (first_bad_tick 0 event
 -- ---- A check of a list: refusals 7 to 14
 
 -- A list as a rule: its next event begins when its tick has come.
-unfoldable pub due : List Event → ℕ → MaybeLoad
-due [] now = NoLoad
-due (event t q x ∷ later) now = cond (eqb t now) (Load q x) NoLoad
+unfoldable pub due : List Event → ℕ → Option Load
+due [] now = None
+due (e ∷ later) now = cond (eqb e.tick now) (Some (load e.slot e.symbol)) None
 
 abbrev pub follow : List Event → Rule
 follow events = record { asks = λ s. due (drop s.loads events) s.tick; done = λ s. leb (length events) s.loads }

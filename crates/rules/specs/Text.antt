@@ -1,9 +1,11 @@
 -- A load list as text that people can read, one event a line: what the writer makes of a list, and what the reader makes of any bytes.
 -- (Document 02, "Three. A load sheet people can read")
-use Rattle.std.specs.Prelude.{ℕ, zero, suc, ◌+◌, ◌*◌, ◌-◌, ◌/◌, ◌%◌, Bool, true, false, cond, not, ◌&&◌, ◌||◌, List, [], ◌∷◌, ◌++◌, length, get_or, drop, eqb, ltb, leb}
+use Rattle.std.specs.Prelude.{ℕ, zero, suc, ◌+◌, ◌*◌, ◌-◌, ◌/◌, ◌%◌, Bool, true, false, cond, not, ◌&&◌, ◌||◌, List, [], ◌∷◌, ◌++◌, length, get_or}
+use Rattle.std.specs.Prelude.{drop, eqb, ltb, leb}
 use Rattle.rules.specs.declared.Written.{Written}
 use Rattle.rules.specs.Order.{Test, test, Verdict, clear, met, first_of}
-use Rattle.rules.specs.LoadList.{Event, event, most_events, head_size, event_size, events_of, list_bytes}
+use Rattle.rules.specs.declared.Event.{Event}
+use Rattle.rules.specs.LoadList.{event, most_events, head_size, event_size, events_of, list_bytes}
 use Rattle.rules.specs.Refusals.{bad_list, tick_test}
 
 -- The bytes that stand between numbers: a blank, and a line feed at the end of a line.
@@ -38,7 +40,7 @@ abbrev pub field : (number stop : ℕ) → List ℕ
 field n stop = decimal n ++ (stop ∷ [])
 
 abbrev pub line_of : Event → List ℕ
-line_of (event t q x) = field t blank ++ field q blank ++ field x line_feed
+line_of e = field e.tick blank ++ field e.slot blank ++ field e.symbol line_feed
 
 -- One line to each event, and no line for no event.
 unfoldable pub text_of : List Event → List ℕ

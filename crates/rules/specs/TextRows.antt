@@ -196,7 +196,8 @@ few_answers =
 -- ---- The theorems: every row computes to its answer
 
 pub told_apart_texts : map found rows ≡ map expected rows
-unfolding rows digits filled events_in events_bytes first_of first_bad_tick digits_of text_of digit_count number_from read_line read_lines write_tests read_tests
+unfolding rows digits filled events_in events_bytes first_of first_bad_tick digits_of text_of digit_count number_from
+    read_line read_lines write_tests read_tests
 told_apart_texts = refl
 
 pub told_apart_few : map lines_found few ≡ few_answers

@@ -1,7 +1,6 @@
 -- Why a draw waited: what a run along a list tells of it, tick by tick. (Document 02, Six)
-use Rattle.std.specs.Prelude.{ℕ, zero, suc, ◌+◌, ◌-◌, cond, List, length, get_or, eqb, ltb}
-use Rattle.rules.specs.declared.MaybeLoad.{MaybeLoad}
-use Rattle.rules.specs.declared.MaybeLoad.TheVariants.{Load, NoLoad}
+use Rattle.std.specs.Prelude.{ℕ, zero, suc, ◌+◌, ◌-◌, cond, List, length, get_or, eqb, ltb, Option, Some, None}
+use Rattle.rules.specs.declared.Load.{Load}
 use Rattle.rules.specs.declared.Loading.{Loading}
 use Rattle.rules.specs.declared.Loading.TheVariants.{Idle, Under}
 use Rattle.rules.specs.declared.Cause.{Cause}
@@ -9,10 +8,6 @@ use Rattle.rules.specs.declared.Cause.TheVariants.{Awaited, Another, Nothing}
 use Rattle.rules.specs.declared.Happening.{Happening}
 use Rattle.rules.specs.declared.Happening.TheVariants.{Draw, Wait}
 use Rattle.rules.specs.declared.TickRecord.{TickRecord}
-use Rattle.rules.specs.declared.Brought.{Brought}
-use Rattle.rules.specs.declared.Brought.TheVariants.{BroughtBy, FromTheStart}
-use Rattle.rules.specs.declared.TakenOut.{TakenOut}
-use Rattle.rules.specs.declared.TakenOut.TheVariants.{TakenBy, NeverTaken}
 use Rattle.rules.specs.declared.Parts.{Parts}
 use Rattle.rules.specs.declared.Account.{Account}
 use Rattle.rules.specs.declared.Reason.{Reason}
@@ -27,18 +22,18 @@ abbrev pub no_waits : Parts
 no_waits = record { own = 0; another = 0; nothing = 0 }
 
 abbrev pub untold : Account
-untold = record { brought = FromTheStart; taken = NeverTaken; waits = no_waits }
+untold = record { brought = None; taken = None; waits = no_waits }
 
 -- Step 1 of a tick. A load of the symbol that ends in it has brought the symbol. The load under way is the last event begun.
-abbrev pub brought_in : ℕ → Loading → ℕ → Brought → Brought
+abbrev pub brought_in : ℕ → Loading → ℕ → Option ℕ → Option ℕ
 brought_in x Idle loads before = before
-brought_in x (Under zero q y) loads before = cond (eqb y x) (BroughtBy (loads - 1)) before
+brought_in x (Under zero q y) loads before = cond (eqb y x) (Some (loads - 1)) before
 brought_in x (Under (suc left) q y) loads before = before
 
 -- Step 2. The event that begins in it takes out what its slot holds.
-abbrev pub taken_in : ℕ → MaybeLoad → List ℕ → ℕ → TakenOut → TakenOut
-taken_in x NoLoad slots loads before = before
-taken_in x (Load q y) slots loads before = cond (eqb (get_or slots q 0) x) (TakenBy loads) before
+abbrev pub taken_in : ℕ → Option Load → List ℕ → ℕ → Option ℕ → Option ℕ
+taken_in x None slots loads before = before
+taken_in x (Some l) slots loads before = cond (eqb (get_or slots l.slot 0) x) (Some loads) before
 
 -- Step 3. Waits of one cause make one of the three parts longer, by the cause that the tick has on record.
 abbrev pub more_waits : ℕ → Cause → Parts → Parts
@@ -97,21 +92,17 @@ why asked list draw = reason_of (account_of asked list draw) (explained asked li
 abbrev pub no_event : ℕ
 no_event = 4294967295
 
-abbrev pub brought_number : Brought → ℕ
-brought_number (BroughtBy e) = e
-brought_number FromTheStart = no_event
-
-abbrev pub taken_number : TakenOut → ℕ
-taken_number (TakenBy e) = e
-taken_number NeverTaken = no_event
+abbrev pub event_or_none : Option ℕ → ℕ
+event_or_none (Some e) = e
+event_or_none None = no_event
 
 abbrev pub plain_account : Account → PlainReason
 plain_account a =
     record {
       number = 0;
       detail = 0;
-      brought = brought_number a.brought;
-      taken = taken_number a.taken;
+      brought = event_or_none a.brought;
+      taken = event_or_none a.taken;
       own = a.waits.own;
       another = a.waits.another;
       nothing = a.waits.nothing;

@@ -1,18 +1,14 @@
 -- The worked sheets of document 01, computed with the definitions: rows a to h in one table with one theorem. What a row can ask is
 -- said here too, for the second table in Telling.antt. (Document 01, "Worked sheets")
 -- Questions and answers are bytes and numbers written out. No job, list or answer is made by a definition of the other files.
-use Rattle.std.specs.Prelude.{ℕ, zero, suc, ◌+◌, ◌*◌, ◌/◌, ◌%◌, ◌≡◌, refl, Bool, cond, List, [], ◌∷◌, ◌++◌, map, length}
+use Rattle.std.specs.Prelude.{ℕ, zero, suc, ◌+◌, ◌*◌, ◌/◌, ◌%◌, ◌≡◌, refl, Bool, cond, List, [], ◌∷◌, ◌++◌, map, length, Option, Some, None, Result, Ok, Err}
+use Rattle.rules.specs.declared.refusal.Refusal.{Refusal}
 use Rattle.rules.specs.declared.Answer.{Answer}
 use Rattle.rules.specs.declared.PlainReason.{PlainReason}
+use Rattle.rules.specs.declared.Event.{Event}
 use Rattle.rules.specs.declared.Shape.{Shape}
-use Rattle.rules.specs.declared.CallReading.{CallReading}
-use Rattle.rules.specs.declared.CallReading.TheVariants.{Taken, Refused}
-use Rattle.rules.specs.declared.ListReading.{ListReading}
-use Rattle.rules.specs.declared.ListReading.TheVariants.{Listed, Unreadable}
-use Rattle.rules.specs.declared.EventReading.{EventReading}
-use Rattle.rules.specs.declared.EventReading.TheVariants as reading
-use Rattle.rules.specs.declared.MaybeLoad.{MaybeLoad}
-use Rattle.rules.specs.declared.MaybeLoad.TheVariants.{Load, NoLoad}
+use Rattle.rules.specs.declared.Unrolled.{Unrolled}
+use Rattle.rules.specs.declared.Load.{Load}
 use Rattle.rules.specs.declared.Cause.{Cause}
 use Rattle.rules.specs.declared.Cause.TheVariants.{Awaited, Another, Nothing}
 use Rattle.rules.specs.declared.Happening.{Happening}
@@ -22,6 +18,7 @@ use Rattle.rules.specs.Basics.{place, number16, number32}
 use Rattle.rules.specs.Job.{Job, symbols, call, shape_of, starting_symbols, drawn_symbols, draws_of, times_over, job_of}
 use Rattle.rules.specs.LoadList.{event, read_event, events_in, events_of, events_bytes, put_head, put_event, put_number}
 use Rattle.rules.specs.Display.{State, Run, Rule, going, refused, start, load_refusal, finished, run, tick, beginning, happened, asked, land, record_of}
+use Rattle.rules.specs.Refusing.{refusal_number}
 use Rattle.rules.specs.Plans.{missing, ranks_from, greatest, rule_of}
 use Rattle.rules.specs.Refusals.{checked, checked_for_c, planned, due, follow, first_bad_tick, doubled, bad_limits, read_list}
 use Rattle.rules.specs.Refusals.{list_number, event_number, read_call, call_number}
@@ -140,29 +137,29 @@ abbrev pub shape_numbers : Shape → List ℕ
 shape_numbers s = s.slots ∷ s.load_time ∷ s.draws ∷ []
 
 -- A job that is taken gives its shape, one that is refused its number; before either comes the number that answers for it.
-abbrev pub job_found : CallReading → List ℕ
-job_found (Taken s) = s.slots ∷ s.load_time ∷ s.round ∷ []
-job_found (Refused number) = number ∷ []
+abbrev pub job_found : Result Unrolled Refusal → List ℕ
+job_found (Ok s) = s.slots ∷ s.load_time ∷ s.round ∷ []
+job_found (Err refusal) = refusal_number refusal ∷ []
 
 -- The same with the rounds, and with the draws of all of them.
-abbrev pub call_found : CallReading → List ℕ
-call_found (Taken s) = s.slots ∷ s.load_time ∷ s.rounds ∷ s.round ∷ s.draws ∷ []
-call_found (Refused number) = number ∷ []
+abbrev pub call_found : Result Unrolled Refusal → List ℕ
+call_found (Ok s) = s.slots ∷ s.load_time ∷ s.rounds ∷ s.round ∷ s.draws ∷ []
+call_found (Err refusal) = refusal_number refusal ∷ []
 
 -- A list that can be read gives the number of its events, an event its tick, slot and symbol, and what cannot be read gives nothing.
-abbrev pub list_found : ListReading → List ℕ
-list_found (Listed m) = m ∷ []
-list_found Unreadable = []
+abbrev pub list_found : Option ℕ → List ℕ
+list_found (Some m) = m ∷ []
+list_found None = []
 
-abbrev pub event_found : EventReading → List ℕ
-event_found (reading.Event t q x) = t ∷ q ∷ x ∷ []
-event_found reading.Short = []
+abbrev pub event_found : Option Event → List ℕ
+event_found (Some e) = e.tick ∷ e.slot ∷ e.symbol ∷ []
+event_found None = []
 
 -- A tick on record in five numbers: 1, slot and symbol of the load begun, or three times 0; then 1 and the slot of a draw, or 0 and the
 -- cause of a wait: 1 for the awaited symbol, 2 for another, 3 for nothing under way.
-abbrev pub begun_found : MaybeLoad → List ℕ
-begun_found (Load q x) = 1 ∷ q ∷ x ∷ []
-begun_found NoLoad = 0 ∷ 0 ∷ 0 ∷ []
+abbrev pub begun_found : Option Load → List ℕ
+begun_found (Some l) = 1 ∷ l.slot ∷ l.symbol ∷ []
+begun_found None = 0 ∷ 0 ∷ 0 ∷ []
 
 abbrev pub cause_found : Cause → ℕ
 cause_found Awaited = 1
@@ -177,7 +174,7 @@ abbrev pub record_found : TickRecord → List ℕ
 record_found r = begun_found r.begun ++ happening_found r.happening
 
 -- The record of a tick, once what begins in it has begun. A tick in which that is refused has none.
-abbrev pub tick_found : MaybeLoad → Run → List ℕ
+abbrev pub tick_found : Option Load → Run → List ℕ
 tick_found begun (going s) = record_found (record_of begun s)
 tick_found begun (refused number detail) = []
 

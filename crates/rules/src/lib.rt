@@ -2,6 +2,10 @@
 // Types and numbers only. What they mean is said in specs/, a file to each section of document 01.
 #![tactic(auto)]
 
+mod refusal;
+
+pub use refusal::Refusal;
+
 // The mark of a slot that holds no symbol.
 pub const FREE: u16 = 65535;
 
@@ -35,32 +39,28 @@ pub struct Unrolled {
     pub draws: u16,
 }
 
-// What reading a call finds: its size, or the number of its one refusal.
+// The plans, in the order of their numbers.
 #[derive(Clone, Copy)]
-pub enum CallReading {
-    Taken(Unrolled),
-    Refused(u32),
+pub enum Plan {
+    Aggressive,
+    Conservative,
+    Opt,
+    Lru,
 }
 
-// What reading the head of a load list finds: the number of its events, or that it is no list.
+// An event of a load list: at this tick this slot begins to load this symbol.
 #[derive(Clone, Copy)]
-pub enum ListReading {
-    Listed(u16),
-    Unreadable,
+pub struct Event {
+    pub tick: u32,
+    pub slot: u8,
+    pub symbol: u16,
 }
 
-// What reading an event finds in the part of a list that begins at it: the event, or too few bytes for one.
+// A load that begins in a tick.
 #[derive(Clone, Copy)]
-pub enum EventReading {
-    Event { tick: u32, slot: u8, symbol: u16 },
-    Short,
-}
-
-// The load that begins in a tick, if one does.
-#[derive(Clone, Copy)]
-pub enum MaybeLoad {
-    Load { slot: u8, symbol: u16 },
-    NoLoad,
+pub struct Load {
+    pub slot: u8,
+    pub symbol: u16,
 }
 
 // The loader: idle, or at work on a load. `left` counts the ticks that pass before the one in which the load ends.
@@ -85,10 +85,10 @@ pub enum Happening {
     Wait(Cause),
 }
 
-// A tick on record: the load begun in it, beside what happened.
+// A tick on record: the load begun in it, if one was, beside what happened.
 #[derive(Clone, Copy)]
 pub struct TickRecord {
-    pub begun: MaybeLoad,
+    pub begun: Option<Load>,
     pub happening: Happening,
 }
 
@@ -113,20 +113,6 @@ pub struct Written {
     pub size: u32,
 }
 
-// The event that last brought a symbol into a slot, counted from 0; or it is there from the start.
-#[derive(Clone, Copy)]
-pub enum Brought {
-    BroughtBy(u32),
-    FromTheStart,
-}
-
-// The event that last took a symbol out of a slot, counted from 0; or none did.
-#[derive(Clone, Copy)]
-pub enum TakenOut {
-    TakenBy(u32),
-    NeverTaken,
-}
-
 // The waits before a draw in three parts: while its own symbol was loading, while another was, while nothing was.
 #[derive(Clone, Copy)]
 pub struct Parts {
@@ -135,11 +121,12 @@ pub struct Parts {
     pub nothing: u32,
 }
 
-// What a run tells of a draw: what last brought its symbol, what last took it out, and the waits before the draw.
+// What a run tells of a draw: the event that last brought its symbol into a slot, or none where it is there from the start; the event that
+// last took it out of one, or none; and the waits before the draw. Events are counted from 0.
 #[derive(Clone, Copy)]
 pub struct Account {
-    pub brought: Brought,
-    pub taken: TakenOut,
+    pub brought: Option<u32>,
+    pub taken: Option<u32>,
     pub waits: Parts,
 }
 

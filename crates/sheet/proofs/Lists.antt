@@ -7,8 +7,7 @@ use mathlib.Core.List.{List, ◌∷◌}
 use lib.ListN.{length, drop}
 use lib.Dec.{ltb}
 use borrow.Author.Tests.{lt-ltb, le-ltb, ltb-false, eqb-true, not-false}
-use Rattle.rules.specs.declared.ListReading.{ListReading}
-use Rattle.rules.specs.declared.ListReading.TheVariants.{Listed, Unreadable}
+use Rattle.std.specs.Prelude.{Option, Some, None}
 use Rattle.rules.specs.Basics.{number32}
 use Rattle.rules.specs.Order.{Test, test, Verdict, met}
 use Rattle.rules.specs.LoadList.{head_size, count_of, events_of, events_in}
@@ -26,12 +25,12 @@ pub record ListRead (list : List ℕ) (count : ℕ) : Type 0 where
   pub counts : count_of list ≡ count
   pub sized : Sized count list
 
-listed : (list : List ℕ) (count : ℕ) → read_list list ≡ Listed count → ListRead list count
+listed : (list : List ℕ) (count : ℕ) → read_list list ≡ Some count → ListRead list count
 listed list count e =
     by_test (bad_list list)
-    (λ bad. let z : ◌≡◌ {A = ℕ} 0 1 = let g : Unreadable ≡ Listed count = rw bad at e in cc in absurd (omega arith))
+    (λ bad. let z : ◌≡◌ {A = ℕ} 0 1 = let g : None ≡ Some count = rw bad at e in cc in absurd (omega arith))
     (λ good.
-    let g : Listed (count_of list) ≡ Listed count = rw good at e in
+    let g : Some (count_of list) ≡ Some count = rw good at e in
     let same : count_of list ≡ count = cc in
     let (l₃, size) = neither _ _ good in
     let (l₂, few) = neither _ _ l₃ in
@@ -42,35 +41,35 @@ listed list count e =
     let long' : 7 ≤ length list = ltb-false _ _ long in
     record { right = good; counts = same; sized = omega arith })
 
-unlisted_bad : (list : List ℕ) → read_list list ≡ Unreadable → bad_list list ≡ true
+unlisted_bad : (list : List ℕ) → read_list list ≡ None → bad_list list ≡ true
 unlisted_bad list e =
     by_test (bad_list list) (λ bad. bad)
-    (λ good. let z : ◌≡◌ {A = ℕ} 0 1 = let g : Listed (count_of list) ≡ Unreadable = rw good at e in cc in absurd (omega arith))
+    (λ good. let z : ◌≡◌ {A = ℕ} 0 1 = let g : Some (count_of list) ≡ None = rw good at e in cc in absurd (omega arith))
 
 -- So the test of a list is met where none was read, and passed where one was.
-pub at_list : (list : List ℕ) (head : ListReading) {n d : ℕ} {later : List Test} → head ≡ read_list list → head ≡ Unreadable
+pub at_list : (list : List ℕ) (head : Option ℕ) {n d : ℕ} {later : List Test} → head ≡ read_list list → head ≡ None
     → Gives (test n d (bad_list list) ∷ later) (met n d)
 at_list list head is none = stop (bad_list list) refl (unlisted_bad list (sym is ∙ none))
 
-pub past_list : (list : List ℕ) (head : ListReading) (count : ℕ) {n d : ℕ} {later : List Test} {v : Verdict} → head ≡ read_list list
-    → head ≡ Listed count → Gives later v → Gives (test n d (bad_list list) ∷ later) v
+pub past_list : (list : List ℕ) (head : Option ℕ) (count : ℕ) {n d : ℕ} {later : List Test} {v : Verdict} → head ≡ read_list list
+    → head ≡ Some count → Gives later v → Gives (test n d (bad_list list) ∷ later) v
 past_list list head count is read g = step (bad_list list) refl (listed list count (sym is ∙ read)).right g
 
-pub is_sized : (list : List ℕ) (head : ListReading) (count : ℕ) → head ≡ read_list list → head ≡ Listed count → Sized count list
+pub is_sized : (list : List ℕ) (head : Option ℕ) (count : ℕ) → head ≡ read_list list → head ≡ Some count → Sized count list
 is_sized list head count is read = (listed list count (sym is ∙ read)).sized
 
 -- ---- The order of the events
 
 -- The events that the code walks are those of the list, and as many as were counted.
-pub same_events : (list : List ℕ) (head : ListReading) (count : ℕ) → head ≡ read_list list → head ≡ Listed count
+pub same_events : (list : List ℕ) (head : Option ℕ) (count : ℕ) → head ≡ read_list list → head ≡ Some count
     → events_of list ≡ events_in count (drop head_size list)
 same_events list head count is read = ap (λ (n : ℕ). events_in n (drop head_size list)) (listed list count (sym is ∙ read)).counts
 
-pub as_many : (list : List ℕ) (head : ListReading) (count : ℕ) → head ≡ read_list list → head ≡ Listed count → length (events_of list) ≡ count
+pub as_many : (list : List ℕ) (head : Option ℕ) (count : ℕ) → head ≡ read_list list → head ≡ Some count → length (events_of list) ≡ count
 as_many list head count is read = ap length (same_events list head count is read) ∙ length-events_in count (drop head_size list)
 
-module _ (list : List ℕ) (head : ListReading) (count first : ℕ) where
-  pub at_order : {n : ℕ} {later : List Test} → head ≡ read_list list → head ≡ Listed count
+module _ (list : List ℕ) (head : Option ℕ) (count first : ℕ) where
+  pub at_order : {n : ℕ} {later : List Test} → head ≡ read_list list → head ≡ Some count
       → first ≡ first_bad_tick 0 (events_in count (drop head_size list)) → first < count
       → Gives (test n (first_bad_tick 0 (events_of list)) (ltb (first_bad_tick 0 (events_of list)) (length (events_of list))) ∷ later) (met n first)
   at_order is read found inside =
@@ -78,7 +77,7 @@ module _ (list : List ℕ) (head : ListReading) (count first : ℕ) where
       let all : length (events_of list) ≡ count = as_many list head count is read in
       rw same (stop true (sym (lt-ltb (first_bad_tick 0 (events_of list)) (length (events_of list)) (omega arith))) refl)
 
-  pub past_order : {n d : ℕ} {later : List Test} {v : Verdict} → head ≡ read_list list → head ≡ Listed count
+  pub past_order : {n d : ℕ} {later : List Test} {v : Verdict} → head ≡ read_list list → head ≡ Some count
       → first ≡ first_bad_tick 0 (events_in count (drop head_size list)) → count ≤ first → Gives later v
       → Gives (test n d (ltb (first_bad_tick 0 (events_of list)) (length (events_of list))) ∷ later) v
   past_order is read found over g =

@@ -8,7 +8,7 @@ ghost use Rattle.rules.specs.Refusals.{read_call, call_number, bad_job_length, b
 use crate::number::{byte_at, number16_at, number32_at};
 use crate::rounds::{all_draws, in_rounds};
 use crate::row::{doubled_in, stands_in};
-use rules::{CallReading, FREE, MOST_DRAWS, MOST_LOAD_TIME, MOST_SLOTS, Shape};
+use rules::{FREE, MOST_DRAWS, MOST_LOAD_TIME, MOST_SLOTS, Refusal, Shape, Unrolled};
 
 fn shape_of(job: &[u8]) -> Shape
     ensures { result ≡ shape_of job.now }
@@ -88,28 +88,28 @@ fn bad_rounds(job: &[u8], rounds: u32) -> bool
 }
 
 // The size of what a call asks about, or the first refusal of 1 to 5 and 17 that it meets.
-pub fn read_call(job: &[u8], rounds: u32) -> CallReading
+pub fn read_call(job: &[u8], rounds: u32) -> Result<Unrolled, Refusal>
     ensures { result ≡ read_call (call job.now rounds) }
 {
     if bad_length(job) {
-        return CallReading::Refused(1);
+        return Err(Refusal::JobLength);
     }
     if bad_version(job) {
-        return CallReading::Refused(2);
+        return Err(Refusal::JobVersion);
     }
     if bad_limits(job) {
-        return CallReading::Refused(3);
+        return Err(Refusal::JobLimits);
     }
     if bad_size(job) {
-        return CallReading::Refused(4);
+        return Err(Refusal::JobSize);
     }
     if bad_symbols(job) {
-        return CallReading::Refused(5);
+        return Err(Refusal::JobSymbols);
     }
     if bad_rounds(job, rounds) {
-        return CallReading::Refused(17);
+        return Err(Refusal::Rounds);
     }
-    CallReading::Taken(in_rounds(shape_of(job), rounds))
+    Ok(in_rounds(shape_of(job), rounds))
 }
 
 // What a slot of the job holds at the start.
@@ -136,11 +136,11 @@ pub fn starting_slots(job: &[u8], slots: u8) -> [u16; MOST_SLOTS as usize]
 }
 
 // The number of the refusal that reading a call found; 0 where it was taken.
-pub fn call_number(reading: CallReading) -> u32
+pub fn call_number(reading: Result<Unrolled, Refusal>) -> u32
     ensures { result ≡ call_number reading }
 {
     match reading {
-        CallReading::Taken(_) => 0,
-        CallReading::Refused(number) => number,
+        Ok(_) => 0,
+        Err(refusal) => refusal.number(),
     }
 }

@@ -4,7 +4,7 @@ ghost use Rattle.rules.specs.LoadList.{event, event_at, head_size, event_size, r
 ghost use Rattle.rules.specs.Refusals.{read_list};
 
 use crate::number::{byte_at, number16_at, number32_at, put32};
-use rules::{EventReading, ListReading, MOST_EVENTS};
+use rules::{Event, MOST_EVENTS};
 
 // The number of bytes of a list of this many events: a head, and an event to each.
 pub fn list_size(events: u32) -> usize
@@ -14,41 +14,41 @@ pub fn list_size(events: u32) -> usize
 }
 
 // The number of events, or that these bytes are no list. (Refusal 8)
-pub fn read_list(list: &[u8]) -> ListReading
+pub fn read_list(list: &[u8]) -> Option<u16>
     ensures { result ≡ read_list list.now }
 {
     if list.len() < 7 {
-        return ListReading::Unreadable;
+        return None;
     }
     let length = number32_at(list, 0);
     if length as usize != list.len() - 4 {
-        return ListReading::Unreadable;
+        return None;
     }
     if byte_at(list, 4) != 1 {
-        return ListReading::Unreadable;
+        return None;
     }
     let count = number16_at(list, 5);
     if MOST_EVENTS < count {
-        return ListReading::Unreadable;
+        return None;
     }
     if length != 3 + 7 * count as u32 {
-        return ListReading::Unreadable;
+        return None;
     }
-    ListReading::Listed(count)
+    Some(count)
 }
 
 // The event at the front of the part of a list that begins at it.
-pub fn read_event(part: &[u8]) -> EventReading
+pub fn read_event(part: &[u8]) -> Option<Event>
     ensures { result ≡ read_event part.now }
 {
     if part.len() < 7 {
-        return EventReading::Short;
+        return None;
     }
-    EventReading::Event {
+    Some(Event {
         tick: number32_at(part, 0),
         slot: byte_at(part, 4),
         symbol: number16_at(part, 5),
-    }
+    })
 }
 
 // Writes a number of four bytes, a byte and a number of two over the first seven bytes.

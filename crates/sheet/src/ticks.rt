@@ -5,7 +5,7 @@ ghost use Rattle.rules.specs.Refusals.{first_bad_tick};
 ghost use Rattle.sheet.specs.Size.{Sized};
 
 use crate::walk::event_of;
-use rules::{EventReading, LAST_TICK};
+use rules::LAST_TICK;
 
 // The first event that breaks the rule of ticks, or the number of events. (Refusal 9)
 pub fn first_bad_tick(list: &[u8], count: u16) -> u32
@@ -16,14 +16,10 @@ pub fn first_bad_tick(list: &[u8], count: u16) -> u32
     let mut least: u32 = 0;
     while index < count as u32 {
         let reading = event_of(list, index);
-        let EventReading::Event {
-            tick,
-            slot: _,
-            symbol: _,
-        } = reading
-        else {
+        let Some(event) = reading else {
             return index;
         };
+        let tick = event.tick;
         if LAST_TICK < tick {
             return index;
         }

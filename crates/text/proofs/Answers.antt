@@ -8,11 +8,11 @@ use lib.ListN.{length, take, drop, length-map}
 use lib.Seq.{length-take-le}
 use lib.Dec.{ltb}
 use borrow.Author.Tests.{lt-ltb, le-ltb, ltb-true, ltb-false}
+use Rattle.std.specs.Prelude.{Option, Some, None}
 use Rattle.rules.specs.declared.Written.{Written}
-use Rattle.rules.specs.declared.ListReading.{ListReading}
-use Rattle.rules.specs.declared.ListReading.TheVariants.{Listed, Unreadable}
 use Rattle.rules.specs.Order.{Test, Verdict, clear, met, first_of}
-use Rattle.rules.specs.LoadList.{Event, event, last_tick, head_size, event_size, events_in, events_bytes, events_of, list_bytes}
+use Rattle.rules.specs.declared.Event.{Event}
+use Rattle.rules.specs.LoadList.{last_tick, head_size, event_size, events_in, events_bytes, events_of, list_bytes}
 use Rattle.rules.specs.Refusals.{read_list, first_bad_tick, tick_test, lent}
 use Rattle.rules.specs.Text.{TextReading, lines, bad_line, lines_of, text_of, room_test, write_tests, read_tests, Writing, refused_with}
 use Rattle.rules.specs.Text.{writing, read_text, written_of, bytes_of}
@@ -42,12 +42,12 @@ module _ (r : Written) (room : List ℕ) (tests : List Test) (bytes : List ℕ) 
 
 -- ---- The writer
 
-module _ (list : List ℕ) (head : ListReading) (room : ℕ) where
-  pub no_list : head ≡ read_list list → head ≡ Unreadable → Gives (write_tests list room) (met 8 0)
+module _ (list : List ℕ) (head : Option ℕ) (room : ℕ) where
+  pub no_list : head ≡ read_list list → head ≡ None → Gives (write_tests list room) (met 8 0)
   unfolding write_tests
   no_list is none = at_list list head is none
 
-  module _ (count first : ℕ) (is : head ≡ read_list list) (read : head ≡ Listed count)
+  module _ (count first : ℕ) (is : head ≡ read_list list) (read : head ≡ Some count)
       (found : first ≡ first_bad_tick 0 (events_in count (drop head_size list))) where
     pub ticks_wrong : first < count → Gives (write_tests list room) (met 9 first)
     unfolding write_tests
@@ -75,29 +75,29 @@ module _ (list : List ℕ) (head : ListReading) (room : ℕ) where
 kept_order : (least : ℕ) (l : List Event) → first_bad_tick least (map kept_event l) ≡ first_bad_tick least l
 unfolding first_bad_tick
 kept_order least [] = refl
-kept_order least (event t q x ∷ l) =
-    by_test (ltb last_tick t)
-    (λ over. let past : last_tick < t = ltb-true last_tick t over in rw (over, lt-ltb last_tick (kept t) (omega arith)))
+kept_order least (this ∷ l) =
+    by_test (ltb last_tick this.tick)
+    (λ over. let past : last_tick < this.tick = ltb-true last_tick this.tick over in rw (over, lt-ltb last_tick (kept this.tick) (omega arith)))
     (λ within.
-    let low : t ≤ last_tick = ltb-false last_tick t within in
-    let same : kept t ≡ t = omega arith in
-    rw (same, kept_order (t + 1) l))
+    let low : this.tick ≤ last_tick = ltb-false last_tick this.tick within in
+    let same : kept this.tick ≡ this.tick = omega arith in
+    rw (same, kept_order (this.tick + 1) l))
 
 -- Where they are in order every tick is kept as it is.
 all_kept : (least : ℕ) (l : List Event) → length l ≤ first_bad_tick least l → map kept_event l ≡ l
 unfolding first_bad_tick
 all_kept least [] e = refl
-all_kept least (event t q x ∷ l) e =
-    by_test (ltb last_tick t)
+all_kept least (this ∷ l) e =
+    by_test (ltb last_tick this.tick)
     (λ over. let none : suc (length l) ≤ 0 = rw over at e in absurd (omega arith))
     (λ within.
-    let low : t ≤ last_tick = ltb-false last_tick t within in
-    let same : kept t ≡ t = omega arith in
-    by_test (ltb t least)
+    let low : this.tick ≤ last_tick = ltb-false last_tick this.tick within in
+    let same : kept this.tick ≡ this.tick = omega arith in
+    by_test (ltb this.tick least)
     (λ under. let none : suc (length l) ≤ 0 = rw (within, under) at e in absurd (omega arith))
     (λ above.
-    let more : suc (length l) ≤ suc (first_bad_tick (t + 1) l) = rw (within, above) at e in
-    rw (same, all_kept (t + 1) l (omega arith))))
+    let more : suc (length l) ≤ suc (first_bad_tick (this.tick + 1) l) = rw (within, above) at e in
+    rw (same, all_kept (this.tick + 1) l (omega arith))))
 
 -- The list in a row has these events.
 module _ (events : List Event) (count : ℕ) (row : List ℕ) (many : length events ≡ count)

@@ -5,7 +5,8 @@ use mathlib.Core.Path.{◌≡◌, refl, sym, ap, ◌∙◌}
 use mathlib.Core.List.{List, [], ◌∷◌, ◌++◌, map, map-append, append-nil, append_assoc}
 use lib.ListN.{length, take, drop, length-append, length-map, length-drop, take-append-drop, drop_of_length-le}
 use lib.Seq.{drop_at, drop-drop, length-take-le}
-use Rattle.rules.specs.LoadList.{Event, event, most_events, event_at, event_bytes, events_bytes, head_bytes, list_bytes, put_head, put_event}
+use Rattle.rules.specs.declared.Event.{Event}
+use Rattle.rules.specs.LoadList.{event, most_events, event_at, event_bytes, events_bytes, head_bytes, list_bytes, put_head, put_event}
 use Rattle.rules.specs.Refusals.{lent}
 use Rattle.rules.specs.Text.{LineReading, line, bad, TextReading, lines, bad_line, add_line, read_line, first_line, read_lines, lines_of}
 use Rattle.laws.proofs.RoundTrip.{length-events, length-list}
@@ -56,7 +57,7 @@ read_first left (b ∷ t) some = refl
 
 as_bad : (from : ℕ) (l : LineReading) → BadLine ≡ line_found from l → l ≡ bad
 as_bad from bad e = refl
-as_bad from (line (event t q x) size) e = let z : ◌≡◌ {A = ℕ} 0 1 = cc in absurd (omega arith)
+as_bad from (line event size) e = let z : ◌≡◌ {A = ℕ} 0 1 = cc in absurd (omega arith)
 
 data FoundAs (from tick slot symbol after : ℕ) : LineReading → Type 0 where
   found_as : {t size : ℕ} → tick ≡ kept t → after ≡ from + size → FoundAs from tick slot symbol after (line (event t slot symbol) size)
@@ -64,10 +65,10 @@ data FoundAs (from tick slot symbol after : ℕ) : LineReading → Type 0 where
 as_line : (from tick slot symbol after : ℕ) (l : LineReading) → Line tick slot symbol after ≡ line_found from l
     → FoundAs from tick slot symbol after l
 as_line from tick slot symbol after bad e = let z : ◌≡◌ {A = ℕ} 0 1 = cc in absurd (omega arith)
-as_line from tick slot symbol after (line (event t q x) size) e =
-    let slots : q ≡ slot = cc in
-    let symbols : x ≡ symbol = cc in
-    rw (slots, symbols) (found_as {t = t} {size = size} (cc) (cc))
+as_line from tick slot symbol after (line this size) e =
+    let slots : this.slot ≡ slot = cc in
+    let symbols : this.symbol ≡ symbol = cc in
+    rw (← slots, ← symbols) (found_as {t = this.tick} {size = size} (cc) (cc))
 
 -- ---- Noting
 

@@ -5,7 +5,7 @@ use mathlib.Core.Path.{◌≡◌, refl, sym, ap, ◌∙◌}
 use mathlib.Core.List.{List, [], ◌∷◌, ◌++◌, append-nil, append_assoc}
 use lib.ListN.{length, take, drop, length-append, take-append-drop, drop_of_length-le}
 use lib.Seq.{take-add, take_all}
-use Rattle.rules.specs.LoadList.{Event}
+use Rattle.rules.specs.declared.Event.{Event}
 use Rattle.rules.specs.Refusals.{lent}
 use Rattle.rules.specs.Text.{line_of, text_of}
 use Rattle.laws.proofs.Writing.{length_over, lent_longer}

@@ -1,7 +1,7 @@
 -- What the code finds at a place of a text: the digits, a number with the byte after it, and a line, each with the place after it.
 use Rattle.std.specs.Prelude.{ℕ, ◌+◌, ◌<◌, ◌≤◌, min, ◌≡◌, true, false, List, length, get_or}
 use Rattle.rules.specs.declared.Written.{Written}
-use Rattle.rules.specs.LoadList.{event, last_tick}
+use Rattle.rules.specs.LoadList.{last_tick}
 use Rattle.rules.specs.Text.{FieldReading, found, none, LineReading, line, bad, is_digit, digit_count, number_from}
 use Rattle.text.specs.declared.line.Digits.{Digits}
 use Rattle.text.specs.declared.line.FieldFound.{FieldFound}
@@ -45,7 +45,7 @@ field_found from (found n size) = Field (kept n) (from + size)
 field_found from none = NoField
 
 abbrev pub line_found : ℕ → LineReading → LineFound
-line_found from (line (event t q x) size) = Line (kept t) q x (from + size)
+line_found from (line e size) = Line (kept e.tick) e.slot e.symbol (from + size)
 line_found from bad = BadLine
 
 -- The answer to a call that wrote this many bytes.

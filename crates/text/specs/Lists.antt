@@ -3,7 +3,8 @@
 use Rattle.std.specs.Prelude.{ℕ, ◌+◌, ◌*◌, ◌≤◌, ◌≡◌, List, [], ◌∷◌, map, length, take, drop}
 use Rattle.rules.specs.declared.Written.{Written}
 use Rattle.rules.specs.Order.{first_of}
-use Rattle.rules.specs.LoadList.{Event, event, most_events, head_size, event_size, events_in, list_bytes}
+use Rattle.rules.specs.declared.Event.{Event}
+use Rattle.rules.specs.LoadList.{event, most_events, head_size, event_size, events_in, list_bytes}
 use Rattle.rules.specs.Refusals.{tick_test, lent}
 use Rattle.rules.specs.Text.{TextReading, lines, bad_line, lines_of, text_of, room_test, Writing, writing, written_of, bytes_of}
 use Rattle.sheet.specs.Size.{Sized}
@@ -22,7 +23,7 @@ most_list = head_size + event_size * most_events
 
 -- An event with its tick as the code keeps it.
 abbrev pub kept_event : Event → Event
-kept_event (event t q x) = event (kept t) q x
+kept_event e = event (kept e.tick) e.slot e.symbol
 
 abbrev pub lines_found : TextReading → LinesFound
 lines_found (lines l) = Lines (length l)

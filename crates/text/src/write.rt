@@ -8,7 +8,7 @@ ghost use Rattle.text.specs.Lists.{TextRoom};
 
 use crate::answer::{refusal, wrote};
 use crate::decimal::{digits, put_field};
-use rules::{EventReading, ListReading, Written};
+use rules::Written;
 
 // The bytes of an event's line.
 fn line_size(tick: u32, slot: u8, symbol: u16) -> usize
@@ -26,10 +26,10 @@ fn text_size(list: &[u8], count: u16) -> usize
     let mut index: u32 = 0;
     while index < count as u32 {
         let reading = sheet::event_of(list, index);
-        let EventReading::Event { tick, slot, symbol } = reading else {
+        let Some(event) = reading else {
             return size;
         };
-        size += line_size(tick, slot, symbol);
+        size += line_size(event.tick, event.slot, event.symbol);
         index += 1;
     }
     size
@@ -55,10 +55,10 @@ fn put_lines(list: &[u8], count: u16, text: &mut [u8])
     let mut index: u32 = 0;
     while index < count as u32 {
         let reading = sheet::event_of(list, index);
-        let EventReading::Event { tick, slot, symbol } = reading else {
+        let Some(event) = reading else {
             return;
         };
-        at = put_line(text, at, tick, slot, symbol);
+        at = put_line(text, at, event.tick, event.slot, event.symbol);
         index += 1;
     }
 }
@@ -69,7 +69,7 @@ pub fn write_text(list: &[u8], text: &mut [u8]) -> Written
     ensures writes { text.new ≡ lent (bytes_of (write_text list.now (length text.old))) text.old }
 {
     let head = sheet::read_list(list);
-    let ListReading::Listed(count) = head else {
+    let Some(count) = head else {
         return refusal(8, 0);
     };
     let first = sheet::first_bad_tick(list, count);

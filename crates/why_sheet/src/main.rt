@@ -6,23 +6,16 @@
 #![tactic(auto)]
 
 use report::{InWords, JOB_ROOM, LIST_ROOM, Refused};
-use rules::{Account, Brought, CallReading, Parts, TakenOut, Unrolled};
+use rules::{Account, Parts, Unrolled};
 use std::io;
 use std::io::Write;
 use std::rt::Env;
 
 // Each of these answers whether all of it was written; the first write that fails is the last that is tried.
-fn say_brought<W: Write>(out: &mut W, brought: Brought) -> io::Result<()> {
-    match brought {
-        Brought::BroughtBy(event) => write!(out, " {event}"),
-        Brought::FromTheStart => write!(out, " start"),
-    }
-}
-
-fn say_taken<W: Write>(out: &mut W, taken: TakenOut) -> io::Result<()> {
-    match taken {
-        TakenOut::TakenBy(event) => write!(out, " {event}"),
-        TakenOut::NeverTaken => write!(out, " none"),
+fn say_event<W: Write>(out: &mut W, event: Option<u32>, none: &str) -> io::Result<()> {
+    match event {
+        Some(event) => write!(out, " {event}"),
+        None => write!(out, " {none}"),
     }
 }
 
@@ -38,8 +31,8 @@ fn print_account<W: Write>(
         nothing,
     } = account.waits;
     write!(out, "{draw} {symbol}")?;
-    say_brought(out, account.brought)?;
-    say_taken(out, account.taken)?;
+    say_event(out, account.brought, "start")?;
+    say_event(out, account.taken, "none")?;
     writeln!(out, " {own} {another} {nothing}")
 }
 
@@ -91,7 +84,7 @@ fn print_why<W: Write>(
         }
     }
     writeln!(out, "explained")?;
-    let CallReading::Taken(shape) = sheet::read_call(job, rounds) else {
+    let Ok(shape) = sheet::read_call(job, rounds) else {
         return Ok(());
     };
     match draw {

@@ -1,14 +1,13 @@
 // One case of a plan: its name, the six numbers of the answer and, where the job is planned, the length of the list in the room.
 use crate::check_case::say_answer;
 use report::{say, say_number};
-use rules::ListReading;
 use std::io;
 use std::io::Write;
 
 // The length is that of the list in these bytes, as the check would read it.
 pub fn say_list<W: Write>(out: &mut W, list: &[u8]) -> io::Result<()> {
     let head = sheet::read_list(list);
-    let ListReading::Listed(count) = head else {
+    let Some(count) = head else {
         return say(out, b"; no list");
     };
     say(out, b"; a list of")?;

@@ -13,8 +13,8 @@ pub returns-in_default-head : goal.returns-in_default-head
 returns-in_default-head c =
     λ ticks slots.
     gives _ _
-    (past_call _ c.read_call-reading.result _ c.read_call-reading.ensures c.in-Taken.is
+    (past_call _ c.read_call-reading.result _ c.read_call-reading.ensures c.in-Ok.is
     (at_list c.args.list.now c.read_list-head.result c.read_list-head.ensures c.in_default-head.is))
 
 pub returns : goal.returns
-returns c = (sym c.read_call-reading.ensures ∙ c.in-Taken.is, sym c.read_list-head.ensures ∙ c.in-Listed.is)
+returns c = (sym c.read_call-reading.ensures ∙ c.in-Ok.is, sym c.read_list-head.ensures ∙ c.in-Some.is)

@@ -24,6 +24,6 @@ returns-then-short_room c =
 pub returns : goal.returns
 returns c =
     let (answer, room) =
-    carries_out _ _ _ _ c.read_call-reading.result _ _ c.read_call-reading.ensures c.in-Taken.is c.carry_out.ensures
+    carries_out _ _ _ _ c.read_call-reading.result _ _ c.read_call-reading.ensures c.in-Ok.is c.carry_out.ensures
     (search walk depth 20 fits 4000) in
     record { answers = answer; writes = room }

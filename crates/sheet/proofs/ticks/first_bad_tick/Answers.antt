@@ -1,6 +1,7 @@
 -- The tick of this turn's event breaks the rule, or the answer lies among the events after it.
 use Rattle.std.proofs.Common.{◌≡◌, suc, ◌+◌, List, ◌∷◌, length, drop, sym, ap, ◌∙◌, arith}
-use Rattle.rules.specs.LoadList.{Event, event, head_size, events_in}
+use Rattle.rules.specs.declared.Event.{Event}
+use Rattle.rules.specs.LoadList.{event, head_size, events_in}
 use Rattle.rules.specs.Refusals.{first_bad_tick}
 use Rattle.laws.proofs.Events.{length-events_in, event_read, bad_tick_over, bad_tick_low, bad_tick_further, bad_tick_none}
 use Rattle.sheet.proofs.ticks.first_bad_tick.Goals as goal
@@ -8,10 +9,10 @@ use Rattle.sheet.proofs.ticks.first_bad_tick.Goals as goal
 pub returns-then-tick-gt-LAST_TICK : goal.returns-then-tick-gt-LAST_TICK
 returns-then-tick-gt-LAST_TICK c =
     let l = c.loop-index in
-    let v = c.in-Event in
+    let v = c.in-Some.event in
     let events : List Event = events_in c.args.count (drop head_size c.args.list.now) in
     let here : drop l.index events ≡ event v.tick v.slot v.symbol ∷ drop (l.index + 1) events =
-    event_read c.args.count l.index c.args.list.now c.loop-index-test.true v.tick v.slot v.symbol (sym v.ensures) in
+    event_read c.args.count l.index c.args.list.now c.loop-index-test.true v.tick v.slot v.symbol (sym c.event_of-reading.ensures ∙ c.in-Some.is) in
     let whole : first_bad_tick 0 events ≡ l.index + first_bad_tick l.least (drop l.index events) = l.invariant.whole in
     let stops : first_bad_tick l.least (drop l.index events) ≡ 0 =
     ap (first_bad_tick l.least) here ∙ bad_tick_over l.least v.tick v.slot v.symbol _ c.if-tick-gt-LAST_TICK.true in
@@ -20,10 +21,10 @@ returns-then-tick-gt-LAST_TICK c =
 pub returns-then-tick-least : goal.returns-then-tick-least
 returns-then-tick-least c =
     let l = c.loop-index in
-    let v = c.in-Event in
+    let v = c.in-Some.event in
     let events : List Event = events_in c.args.count (drop head_size c.args.list.now) in
     let here : drop l.index events ≡ event v.tick v.slot v.symbol ∷ drop (l.index + 1) events =
-    event_read c.args.count l.index c.args.list.now c.loop-index-test.true v.tick v.slot v.symbol (sym v.ensures) in
+    event_read c.args.count l.index c.args.list.now c.loop-index-test.true v.tick v.slot v.symbol (sym c.event_of-reading.ensures ∙ c.in-Some.is) in
     let whole : first_bad_tick 0 events ≡ l.index + first_bad_tick l.least (drop l.index events) = l.invariant.whole in
     let stops : first_bad_tick l.least (drop l.index events) ≡ 0 =
     ap (first_bad_tick l.least) here ∙ bad_tick_low l.least v.tick v.slot v.symbol _ c.if-tick-gt-LAST_TICK.false c.if-tick-least.true in
@@ -32,10 +33,10 @@ returns-then-tick-least c =
 pub loop-index-preserved : goal.loop-index-preserved
 loop-index-preserved c =
     let l = c.loop-index in
-    let v = c.in-Event in
+    let v = c.in-Some.event in
     let events : List Event = events_in c.args.count (drop head_size c.args.list.now) in
     let here : drop l.index events ≡ event v.tick v.slot v.symbol ∷ drop (l.index + 1) events =
-    event_read c.args.count l.index c.args.list.now c.loop-index-test.true v.tick v.slot v.symbol (sym v.ensures) in
+    event_read c.args.count l.index c.args.list.now c.loop-index-test.true v.tick v.slot v.symbol (sym c.event_of-reading.ensures ∙ c.in-Some.is) in
     let whole : first_bad_tick 0 events ≡ l.index + first_bad_tick l.least (drop l.index events) = l.invariant.whole in
     let goes : first_bad_tick l.least (drop l.index events) ≡ suc (first_bad_tick (v.tick + 1) (drop (l.index + 1) events)) =
     ap (first_bad_tick l.least) here

@@ -1,6 +1,7 @@
 -- A turn counts one line more.
-use Rattle.std.proofs.Common.{◌≡◌, ◌+◌, List, ◌∷◌, length, drop, sym, arith}
-use Rattle.rules.specs.LoadList.{Event, event, head_size, events_in}
+use Rattle.std.proofs.Common.{◌≡◌, ◌+◌, List, ◌∷◌, length, drop, sym, ◌∙◌, arith}
+use Rattle.rules.specs.declared.Event.{Event}
+use Rattle.rules.specs.LoadList.{event, head_size, events_in}
 use Rattle.rules.specs.Text.{text_of}
 use Rattle.laws.proofs.Events.{length-events_in, event_read}
 use Rattle.text.proofs.Texts.{text_split, text_none}
@@ -9,11 +10,11 @@ use Rattle.text.proofs.write.text_size.Goals as goal
 pub loop-index-preserved : goal.loop-index-preserved
 loop-index-preserved c =
     let l = c.loop-index in
-    let v = c.in-Event in
+    let v = c.in-Some.event in
     let events : List Event = events_in c.args.count (drop head_size c.args.list.now) in
     let e : Event = event v.tick v.slot v.symbol in
     let here : drop l.index events ≡ e ∷ drop (l.index + 1) events =
-    event_read c.args.count l.index c.args.list.now c.loop-index-test.true v.tick v.slot v.symbol (sym v.ensures) in
+    event_read c.args.count l.index c.args.list.now c.loop-index-test.true v.tick v.slot v.symbol (sym c.event_of-reading.ensures ∙ c.in-Some.is) in
     let line = c.line_size-size.ensures in
     let counted = l.invariant.counted in
     record {
