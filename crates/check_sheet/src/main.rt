@@ -56,11 +56,8 @@ fn main(rt: HostRuntime) {
         return;
     };
     let mut job_room = [0u8; JOB_ROOM];
-    let Some(job) = report::read_argument(&rt, &mut err, 1, b"job", &mut job_room) else {
-        return;
-    };
     let mut list_room = [0u8; LIST_ROOM];
-    let Some(list) = report::read_argument(&rt, &mut err, 2, b"list", &mut list_room) else {
+    let Some((job, list)) = report::read_sheet(&rt, &mut err, &mut job_room, &mut list_room) else {
         return;
     };
     if let Err(error) = print_check(&mut rt.stdout(), job, list, rounds) {

@@ -97,3 +97,18 @@ pub fn read_argument<'a, R: Env + Files + AllocGlobal, W: Write>(
         }
     }
 }
+
+// The job and the list that the first two arguments name. Where one cannot be read, what is wrong was said.
+pub fn read_sheet<'a, R: Env + Files + AllocGlobal, W: Write>(
+    rt: &R,
+    err: &mut W,
+    job_room: &'a mut [u8],
+    list_room: &'a mut [u8],
+) -> Option<(&'a [u8], &'a [u8])>
+    ensures job { IfSome result (λ sheet. length sheet.0.now ≤ length job_room.old) }
+    ensures list { IfSome result (λ sheet. length sheet.1.now ≤ length list_room.old) }
+{
+    let job = read_argument(rt, err, 1, b"job", job_room)?;
+    let list = read_argument(rt, err, 2, b"list", list_room)?;
+    Some((job, list))
+}

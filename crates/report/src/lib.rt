@@ -8,7 +8,9 @@ mod line;
 mod rounds;
 mod words;
 
-pub use file::{JOB_ROOM, LIST_ROOM, LONGEST_LIST, has_argument, read_argument, read_full};
+pub use file::{
+    JOB_ROOM, LIST_ROOM, LONGEST_LIST, has_argument, read_argument, read_full, read_sheet,
+};
 pub use line::say_failure;
 pub use rounds::rounds_argument;
 pub use words::{InWords, Refused};

@@ -6,7 +6,7 @@
 #![tactic(auto)]
 
 use report::{InWords, JOB_ROOM, LIST_ROOM, Refused};
-use rules::{Account, Parts, Unrolled};
+use rules::{Account, Parts, Refusal, Unrolled};
 use std::io;
 use std::io::Write;
 use std::rt::Env;
@@ -69,7 +69,7 @@ fn print_one<W: Write>(
     print_account(out, draw, sheet::draw_symbol(job, shape, draw), account)
 }
 
-// 18 comes after all refusals of a check. Of draw 0 it says that the list is accepted and the sheet has no draw.
+// That there is no such draw comes after all refusals of a check. Of draw 0 it says that the list is accepted and the sheet has no draw.
 fn print_why<W: Write>(
     out: &mut W,
     job: &[u8],
@@ -79,7 +79,7 @@ fn print_why<W: Write>(
 ) -> io::Result<()> {
     let reason = checker::why(job, list, draw.unwrap_or(0), rounds);
     if let Some(refused) = Refused::of(reason.number, reason.detail) {
-        if refused.number != 18 || draw.is_some() {
+        if draw.is_some() || refused.number != Refusal::NoSuchDraw.number() {
             return writeln!(out, "{refused}\n{}", InWords(refused));
         }
     }
@@ -114,11 +114,8 @@ fn main(rt: HostRuntime) {
         return;
     };
     let mut job_room = [0u8; JOB_ROOM];
-    let Some(job) = report::read_argument(&rt, &mut err, 1, b"job", &mut job_room) else {
-        return;
-    };
     let mut list_room = [0u8; LIST_ROOM];
-    let Some(list) = report::read_argument(&rt, &mut err, 2, b"list", &mut list_room) else {
+    let Some((job, list)) = report::read_sheet(&rt, &mut err, &mut job_room, &mut list_room) else {
         return;
     };
     if let Err(error) = print_why(&mut rt.stdout(), job, list, rounds, draw) {
