@@ -81,10 +81,13 @@ fn write_run<W: fmt::Write>(f: &mut fmt::Formatter<W>, number: u32, detail: u32)
             "draw {detail} would wait for ever: its symbol is in no slot, no load is under way and no event is left"
         ),
         14 => write!(f, "event {detail} is left when all draws are done"),
-        16 => write!(
-            f,
-            "line {detail} is not tick, slot and symbol in decimal with one blank between and a line feed, or its slot is over 255, its symbol over 65535, or it is one line too many"
-        ),
+        16 => {
+            write!(
+                f,
+                "line {detail} is not tick, slot and symbol in decimal with one blank between and a line feed, or its "
+            )?;
+            f.write_str("slot is over 255, its symbol over 65535, or it is one line too many")
+        }
         17 => f.write_str(
             "the number of rounds is 0, or all rounds together have more than 4,096 draws",
         ),
