@@ -43,8 +43,8 @@ fn after_waits(d: Display, happening: Happening) -> Display
     }
 }
 
-// The run of a plan from the starting symbols in the slots to its last draw: the display at its end, or refusal 15 where the last
-// tick that a list can name comes first. The loads that it begins are noted in `loads`. For conservative the first `orders` loads of that row are
+// The run of a plan from the starting symbols in the slots to its last draw: the display at its end, or refusal 15 where the last tick that
+// a list can name comes first. The loads that it begins are noted in `loads`. For conservative the first `orders` loads of that row are
 // those of opt: each is read before the load of the same number takes its place.
 pub fn run_plan(
     plan: Plan,
