@@ -16,7 +16,7 @@ use Rattle.rules.specs.Refusals.{follow, follows, most_ticks}
 use Rattle.rules.specs.Why.{untold, brought_in, waits_in, told}
 use Rattle.display.specs.View.{loading_of}
 use Rattle.display.specs.declared.state.Display.{Display}
-use Rattle.checker.specs.Follow.{BothRead}
+use Rattle.laws.specs.Limits.{Limits}
 
 -- What a load that is asked for takes out of these slots.
 abbrev pub going_out : Option Load → List ℕ → ℕ
@@ -55,9 +55,9 @@ pub record MayTell (tick later : ℕ) (account : Account) : Type 0 where
   pub top : later ≤ 4294967295
   pub passed : Passed tick account.waits
 
--- What the run that tells of a draw starts from: job and list, and the starting symbols in the slots.
-pub record MayRunTold (asked : Call) (list : List ℕ) (shape : Unrolled) (count : ℕ) (held : List ℕ) : Type 0 where
-  pub read : BothRead asked list shape count
+-- What the run that tells of a draw starts from: a job that was taken, and the starting symbols in the slots.
+pub record MayRunTold (asked : Call) (shape : Unrolled) (held : List ℕ) : Type 0 where
+  pub limits : Limits asked shape
   pub starts : held ≡ starting_symbols asked.job
 
 -- A run that is accepted and has draw i, of symbol x, with the account of the rules of it.

@@ -12,15 +12,16 @@ use Rattle.rules.specs.declared.Event.{Event}
 use Rattle.rules.specs.Display.{Run, refused, finished}
 use Rattle.rules.specs.Refusals.{due, closing, follows, answer_of, tick_of, slot_of, ticks_of, slots_of, lent}
 use Rattle.laws.specs.Limits.{Limits}
-use Rattle.sheet.specs.Size.{Sized}
 use Rattle.display.specs.View.{History, view}
 use Rattle.display.specs.Tick.{Room}
-use Rattle.display.specs.Still.{MayRest}
 use Rattle.display.specs.declared.state.Display.{Display}
 
--- The run of a job along a list of this many events.
+-- The events of a list of this many, and the run of a job along them.
+abbrev pub events_along : ℕ → List ℕ → List Event
+events_along count list = events_in count (drop head_size list)
+
 abbrev pub runs_along : Call → ℕ → List ℕ → Run
-runs_along asked count list = follows (job_of asked) (events_in count (drop head_size list))
+runs_along asked count list = follows (job_of asked) (events_along count list)
 
 -- What a host is told of a run that ended at a display or was refused: its answer, and the number of draws that go with it.
 abbrev pub answer_in : Result Display Refusal → Answer
@@ -36,14 +37,9 @@ abbrev pub ended_at : {A : Type 0} → Display → Result A Refusal → Result D
 ended_at d (Ok a) = Ok d
 ended_at d (Err r) = Err r
 
--- Job and list were read: the job is within its limits, and the list has the size of its events.
-pub record BothRead (asked : Call) (list : List ℕ) (shape : Unrolled) (count : ℕ) : Type 0 where
+-- What a tick asks for: a job that was taken, all slots of the display, counters with room for one more, and a draw that remains.
+pub record MayTick (asked : Call) (shape : Unrolled) (held : List ℕ) (d : Display) : Type 0 where
   pub limits : Limits asked shape
-  pub sized : Sized count list
-
--- What a tick asks for: job and list, all slots of the display, counters with room for one more, and a draw that remains.
-pub record MayTick (asked : Call) (list : List ℕ) (shape : Unrolled) (count : ℕ) (held : List ℕ) (d : Display) : Type 0 where
-  pub read : BothRead asked list shape count
   pub all_slots : length held ≡ shape.slots
   pub room : Room d
   pub few_loads : d.loads < 4294967295
@@ -55,19 +51,14 @@ pub record NothingDue (events : List Event) (d : Display) (m : ℕ) : Type 0 whe
   pub before_end : d.remaining - m ≡ 0 → d.remaining ≡ 0
   pub event_left : 0 < m → d.remaining ≡ 0 → d.loads < length events
 
--- What the display after the waits asks for: a list of its size, and a display from which a stretch of waits may start.
-pub record MayWait (list : List ℕ) (count : ℕ) (d : Display) (limit : ℕ) : Type 0 where
-  pub sized : Sized count list
-  pub rests : MayRest limit d
-
 -- A buffer with what a tick brings for the draw at a place: nothing for a wait.
 abbrev pub noted : Happening → (ℕ → ℕ) → ℕ → List ℕ → List ℕ
 noted (Draw q) what at buffer = set buffer at (what q)
 noted (Wait cause) what at buffer = buffer
 
--- What the run of a whole list starts from: job and list, the starting symbols in the slots, and room to note the most draws.
-pub record MayRun (asked : Call) (list : List ℕ) (shape : Unrolled) (count : ℕ) (held ticks slots : List ℕ) : Type 0 where
-  pub read : BothRead asked list shape count
+-- What the run of a whole list starts from: a job that was taken, the starting symbols in the slots, and room to note the most draws.
+pub record MayRun (asked : Call) (shape : Unrolled) (held ticks slots : List ℕ) : Type 0 where
+  pub limits : Limits asked shape
   pub starts : held ≡ starting_symbols asked.job
   pub tick_room : length ticks ≡ most_draws
   pub slot_room : length slots ≡ most_draws
@@ -96,9 +87,9 @@ pub record CopyRoom (draws : ℕ) (ticks slots at from : List ℕ) : Type 0 wher
   pub ticks_from : draws ≤ length at
   pub slots_from : draws ≤ length from
 
--- Job and list were read, and both lent buffers have a place for each draw.
-pub record HasRoom (asked : Call) (list : List ℕ) (shape : Unrolled) (count : ℕ) (ticks slots : List ℕ) : Type 0 where
-  pub read : BothRead asked list shape count
+-- The job was taken, and both lent buffers have a place for each draw.
+pub record HasRoom (asked : Call) (shape : Unrolled) (ticks slots : List ℕ) : Type 0 where
+  pub limits : Limits asked shape
   pub tick_room : shape.draws ≤ length ticks
   pub slot_room : shape.draws ≤ length slots
 

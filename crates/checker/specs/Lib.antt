@@ -1,4 +1,3 @@
 pub mod Follow
-pub mod Opening
 pub mod Turn
 pub mod Accounts

@@ -8,16 +8,17 @@ use Rattle.rules.specs.Job.{Job, Call, job_of}
 use Rattle.rules.specs.declared.Event.{Event}
 use Rattle.rules.specs.Display.{State, Run, going, refused, then, finished, run}
 use Rattle.rules.specs.Refusals.{closing, follow, most_ticks, tick_of, slot_of}
+use Rattle.laws.specs.Limits.{Limits}
 use Rattle.display.specs.View.{History, view}
 use Rattle.display.specs.Tick.{OnRecord}
 use Rattle.display.specs.Still.{MayRest, Rested}
 use Rattle.display.specs.declared.state.Display.{Display}
 use Rattle.checker.specs.declared.run.Turn.{Turn}
-use Rattle.checker.specs.Follow.{BothRead, NothingDue, Noted}
+use Rattle.checker.specs.Follow.{NothingDue, Noted}
 
--- What a turn asks for: job and list, all slots of the display, and a display that has counted no more than ticks have passed.
-pub record MayTurn (asked : Call) (list : List ℕ) (shape : Unrolled) (count : ℕ) (held : List ℕ) (d : Display) : Type 0 where
-  pub read : BothRead asked list shape count
+-- What a turn asks for: a job that was taken, all slots of the display, and a display that has counted no more than ticks have passed.
+pub record MayTurn (asked : Call) (shape : Unrolled) (held : List ℕ) (d : Display) : Type 0 where
+  pub limits : Limits asked shape
   pub all_slots : length held ≡ shape.slots
   pub rests : MayRest (most_ticks (job_of asked)) d
   pub loads : d.loads ≤ d.tick

@@ -1,16 +1,16 @@
 // The account of a draw: what a turn of the run adds to it.
 ghost use Rattle.std.specs.Prelude.{◌≡◌, cond, ◌&&◌, eqb, ◌-◌, drop};
-ghost use Rattle.rules.specs.LoadList.{events_in, head_size};
 ghost use Rattle.rules.specs.Refusals.{due};
 ghost use Rattle.rules.specs.Why.{untold, brought_in, more_waits, waits_in};
 ghost use Rattle.display.specs.View.{loading_of};
 ghost use Rattle.display.specs.Moves.{landed_in};
-ghost use Rattle.sheet.specs.Size.{Sized};
+ghost use Rattle.checker.specs.Follow.{events_along};
 ghost use Rattle.checker.specs.Accounts.{going_out, taken_of, turn_told, Countable, MayTell};
 
 use crate::follow::asked_of;
 use display::Display;
 use rules::{Account, Cause, FREE, Happening, Load, Parts, TickRecord};
+use sheet::LoadList;
 
 // Before the first tick nothing is told.
 pub fn untold() -> Account
@@ -57,11 +57,10 @@ fn taken_by(held: &[u16], d: Display, asked: Option<Load>) -> u16
 }
 
 // The same of the load that the list asks for in this tick.
-pub fn going_out(list: &[u8], count: u16, held: &[u16], d: Display) -> u16
-    requires { Sized count list.now }
-    ensures { result ≡ going_out (due (drop d.loads (events_in count (drop head_size list.now))) d.tick) (landed_in d held.now) }
+pub fn going_out(list: LoadList<'_>, held: &[u16], d: Display) -> u16
+    ensures { result ≡ going_out (due (drop d.loads (events_along list.entry.count list.entry.bytes.now)) d.tick) (landed_in d held.now) }
 {
-    taken_by(held, d, asked_of(list, count, d.loads, d.tick))
+    taken_by(held, d, asked_of(list, d.loads, d.tick))
 }
 
 // The event begun last, where this many have begun.

@@ -6,10 +6,10 @@ ghost use Rattle.checker.specs.Follow.{HasRoom, HandedOut, runs_along};
 
 use crate::checked::{Checked, answered};
 use crate::copy::copy_draws;
-use crate::opening::{Opening, opening_of};
 use crate::run::run_list;
 use display::Display;
-use rules::{Answer, MOST_DRAWS, Refusal};
+use rules::{Answer, MOST_DRAWS, Refusal, Unrolled};
+use sheet::LoadList;
 
 // 7. There are fewer places than draws in the buffer for ticks or in the one for slots.
 fn short_room(draws: u16, ticks: usize, slots: usize) -> bool
@@ -24,28 +24,19 @@ fn short_room(draws: u16, ticks: usize, slots: usize) -> bool
 // The run of a list that is in order, with its draws handed out where it is accepted.
 fn hand_out(
     job: &[u8],
-    list: &[u8],
-    opening: Opening,
+    list: LoadList<'_>,
+    shape: Unrolled,
     ticks: &mut [u32],
     slots: &mut [u8],
 ) -> Result<Display, Refusal>
-    requires { HasRoom (call job.now opening.shape.rounds) list.now opening.shape opening.count ticks.old slots.old }
-    ensures { HandedOut (runs_along (call job.now opening.shape.rounds) opening.count list.now) result ticks.old ticks.new slots.old slots.new }
+    requires { HasRoom (call job.now shape.rounds) shape ticks.old slots.old }
+    ensures { HandedOut (runs_along (call job.now shape.rounds) list.entry.count list.entry.bytes.now) result ticks.old ticks.new slots.old slots.new }
 {
     let mut at = [0u32; MOST_DRAWS as usize];
     let mut from = [0u8; MOST_DRAWS as usize];
-    let shape = opening.shape;
     let mut held = sheet::starting_slots(job, shape.slots);
     let k = shape.slots as usize;
-    let d = run_list(
-        job,
-        list,
-        shape,
-        opening.count,
-        &mut held[..k],
-        &mut at,
-        &mut from,
-    )?;
+    let d = run_list(job, list, shape, &mut held[..k], &mut at, &mut from)?;
     copy_draws(ticks, slots, &at, &from, d.next);
     Ok(d)
 }
@@ -60,16 +51,13 @@ fn run_check(
 ) -> Result<Display, Refusal>
     ensures { HandedOut (checked (call job.now rounds) list.now (length ticks.old) (length slots.old)) result ticks.old ticks.new slots.old slots.new }
 {
-    let opening = opening_of(job, list, rounds)?;
-    let shape = opening.shape;
+    let shape = sheet::read_call(job, rounds)?;
+    let list = LoadList::read(list)?;
     if short_room(shape.draws, ticks.len(), slots.len()) {
         return Err(Refusal::ShortRoom);
     }
-    let first = sheet::first_bad_tick(list, opening.count);
-    if first < opening.count as u32 {
-        return Err(Refusal::EventTick { event: first });
-    }
-    hand_out(job, list, opening, ticks, slots)
+    list.check_ticks()?;
+    hand_out(job, list, shape, ticks, slots)
 }
 
 // The check with the number of draws that it reports, for a host that has to know how much of the buffers was written.

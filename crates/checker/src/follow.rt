@@ -1,27 +1,22 @@
 // A tick of the display along a load list: what the list asks for, and the three steps.
 ghost use Rattle.std.specs.Prelude.{◌≡◌, drop};
 ghost use Rattle.rules.specs.Job.{call, job_of};
-ghost use Rattle.rules.specs.LoadList.{events_in, head_size};
 ghost use Rattle.rules.specs.Refusals.{due, follow};
 ghost use Rattle.display.specs.Tick.{Ticks, Recorded};
-ghost use Rattle.sheet.specs.Size.{Sized};
-ghost use Rattle.checker.specs.Follow.{MayTick};
+ghost use Rattle.checker.specs.Follow.{MayTick, events_along};
 
-use display::{Display, Ticked, begin, draw_or_wait, land, load_refusal};
+use display::{Display, Ticked, land, rest_of_tick};
 use rules::{Load, Refusal, Unrolled};
+use sheet::LoadList;
 
 // What the list asks for in this tick, when this many of its loads have begun.
-pub fn asked_of(list: &[u8], count: u16, loads: u32, tick: u32) -> Option<Load>
-    requires { Sized count list.now }
-    ensures { result ≡ due (drop loads (events_in count (drop head_size list.now))) tick }
+pub fn asked_of(list: LoadList<'_>, loads: u32, tick: u32) -> Option<Load>
+    ensures { result ≡ due (drop loads (events_along list.entry.count list.entry.bytes.now)) tick }
 {
-    if count as u32 <= loads {
+    if list.count as u32 <= loads {
         return None;
     }
-    let reading = sheet::event_of(list, loads);
-    let Some(event) = reading else {
-        return None;
-    };
+    let event = list.event(loads as u16);
     if event.tick == tick {
         return Some(Load {
             slot: event.slot,
@@ -34,20 +29,18 @@ pub fn asked_of(list: &[u8], count: u16, loads: u32, tick: u32) -> Option<Load>
 // One tick along the list, while draws remain: land, begin what the list asks for, then draw or wait.
 pub fn follow_tick(
     job: &[u8],
-    list: &[u8],
+    list: LoadList<'_>,
     shape: Unrolled,
-    count: u16,
     held: &mut [u16],
     d: Display,
 ) -> Result<Ticked, Refusal>
-    requires { MayTick (call job.now shape.rounds) list.now shape count held.old d }
-    ensures ticks { Ticks (job_of (call job.now shape.rounds)) (follow (events_in count (drop head_size list.now))) held.old held.new d result }
-    ensures recorded { Recorded (job_of (call job.now shape.rounds)) (follow (events_in count (drop head_size list.now))) held.old d result }
+    requires { MayTick (call job.now shape.rounds) shape held.old d }
+    ensures ticks { Ticks (job_of (call job.now shape.rounds)) (follow (events_along list.entry.count list.entry.bytes.now)) held.old held.new d result }
+    ensures recorded { Recorded (job_of (call job.now shape.rounds)) (follow (events_along list.entry.count list.entry.bytes.now)) held.old d result }
 {
     let landed = land(held, d);
-    let asked = asked_of(list, count, landed.loads, landed.tick);
-    load_refusal(held, landed, asked)?;
-    let begun = begin(held, landed, shape.load_time, asked);
+    let asked = asked_of(list, landed.loads, landed.tick);
     let symbol = sheet::draw_symbol(job, shape, landed.next);
-    draw_or_wait(held, begun, asked, symbol, count as u32 <= landed.loads)
+    let done = list.count as u32 <= landed.loads;
+    rest_of_tick(held, landed, shape.load_time, asked, symbol, done)
 }

@@ -6,7 +6,6 @@ mod answer;
 mod checked;
 mod copy;
 mod follow;
-mod opening;
 mod reason;
 mod rest;
 mod run;

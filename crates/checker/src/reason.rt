@@ -3,13 +3,12 @@ ghost use Rattle.std.specs.Prelude.{◌≡◌, ◌<◌, get_or};
 ghost use Rattle.rules.specs.Job.{call, draws_of};
 ghost use Rattle.rules.specs.Why.{why};
 ghost use Rattle.laws.specs.Limits.{Limits};
-ghost use Rattle.checker.specs.Follow.{BothRead};
 ghost use Rattle.checker.specs.Accounts.{AccountedFor, reason_in};
 
 use crate::account::untold;
-use crate::opening::{Opening, opening_of};
 use crate::run::run_told;
 use rules::{Account, FREE, Reason, Refusal, Unrolled};
+use sheet::LoadList;
 
 // The symbol of a draw; past the last draw there is none.
 fn symbol_of(job: &[u8], shape: Unrolled, draw: u32) -> u16
@@ -23,36 +22,30 @@ fn symbol_of(job: &[u8], shape: Unrolled, draw: u32) -> u16
 }
 
 // The account from the run for a job and a list that were read. Nobody asks for the ticks and the slots of all draws, so none are noted.
-fn account_of(job: &[u8], list: &[u8], opening: Opening, draw: u32) -> Result<Account, Refusal>
-    requires { BothRead (call job.now opening.shape.rounds) list.now opening.shape opening.count }
-    ensures { AccountedFor (call job.now opening.shape.rounds) opening.count list.now draw result }
+fn account_of(
+    job: &[u8],
+    list: LoadList<'_>,
+    shape: Unrolled,
+    draw: u32,
+) -> Result<Account, Refusal>
+    requires { Limits (call job.now shape.rounds) shape }
+    ensures { AccountedFor (call job.now shape.rounds) list.entry.count list.entry.bytes.now draw result }
 {
-    let shape = opening.shape;
     let mut held = sheet::starting_slots(job, shape.slots);
     let k = shape.slots as usize;
     let symbol = symbol_of(job, shape, draw);
-    run_told(
-        job,
-        list,
-        shape,
-        opening.count,
-        &mut held[..k],
-        draw,
-        symbol,
-    )
+    run_told(job, list, shape, &mut held[..k], draw, symbol)
 }
 
 // The account of this draw, or the one refusal: those of a check in their order, then 18. No room is lent, so 7 is not given.
 fn explain(job: &[u8], list: &[u8], draw: u32, rounds: u32) -> Result<Account, Refusal>
     ensures { reason_in result ≡ why (call job.now rounds) list.now draw }
 {
-    let opening = opening_of(job, list, rounds)?;
-    let first = sheet::first_bad_tick(list, opening.count);
-    if first < opening.count as u32 {
-        return Err(Refusal::EventTick { event: first });
-    }
-    let account = account_of(job, list, opening, draw)?;
-    if opening.shape.draws as u32 <= draw {
+    let shape = sheet::read_call(job, rounds)?;
+    let list = LoadList::read(list)?;
+    list.check_ticks()?;
+    let account = account_of(job, list, shape, draw)?;
+    if shape.draws as u32 <= draw {
         return Err(Refusal::NoSuchDraw);
     }
     Ok(account)

@@ -1,8 +1,7 @@
 // The run of a display along a load list: with its draws noted, or with the account of one of them.
-ghost use Rattle.std.specs.Prelude.{◌≡◌, ◌<◌, length, drop};
+ghost use Rattle.std.specs.Prelude.{◌≡◌, ◌<◌, length};
 ghost use Rattle.rules.specs.Job.{call, draws_of, job_of};
-ghost use Rattle.rules.specs.LoadList.{events_in, head_size};
-ghost use Rattle.checker.specs.Follow.{noted, MayRun, Noted, runs_along};
+ghost use Rattle.checker.specs.Follow.{noted, MayRun, Noted, events_along, runs_along};
 ghost use Rattle.checker.specs.Turn.{MayTurn, Turned};
 ghost use Rattle.checker.specs.Accounts.{MayRunTold, RanSo};
 
@@ -12,6 +11,7 @@ use crate::follow::follow_tick;
 use crate::rest::after_waits;
 use display::{Display, start};
 use rules::{Account, Happening, LAST_TICK, Refusal, TickRecord, Unrolled};
+use sheet::LoadList;
 
 // A turn of the run: the tick on record, and the display after the waits that follow it.
 #[derive(Clone, Copy)]
@@ -23,27 +23,26 @@ struct Turn {
 // The turn from this display on, or none where every draw is made and no event is left.
 fn take_turn(
     job: &[u8],
-    list: &[u8],
+    list: LoadList<'_>,
     shape: Unrolled,
-    count: u16,
     held: &mut [u16],
     d: Display,
 ) -> Result<Option<Turn>, Refusal>
-    requires { MayTurn (call job.now shape.rounds) list.now shape count held.old d }
-    ensures { Turned (job_of (call job.now shape.rounds)) (events_in count (drop head_size list.now)) held.old held.new d result }
+    requires { MayTurn (call job.now shape.rounds) shape held.old d }
+    ensures { Turned (job_of (call job.now shape.rounds)) (events_along list.entry.count list.entry.bytes.now) held.old held.new d result }
 {
     let limit = LAST_TICK + 1 + shape.load_time as u32 + shape.draws as u32;
     let draw = d.next;
     if shape.draws <= draw {
-        finish(d, count)?;
+        finish(d, list.count)?;
         return Ok(None);
     }
     if limit <= d.tick {
         return Err(Refusal::EndlessWait { draw: draw as u32 });
     }
-    let ticked = follow_tick(job, list, shape, count, held, d)?;
+    let ticked = follow_tick(job, list, shape, held, d)?;
     let on_record = ticked.on_record;
-    let later = after_waits(list, count, ticked.display, on_record.happening, limit);
+    let later = after_waits(list, ticked.display, on_record.happening, limit);
     Ok(Some(Turn { on_record, later }))
 }
 
@@ -63,18 +62,17 @@ fn note(ticks: &mut [u32], slots: &mut [u8], draw: u16, tick: u32, happening: Ha
 // The run of the whole list from the slots as they start, with the draws noted in the two buffers. It answers the display at its end.
 pub fn run_list(
     job: &[u8],
-    list: &[u8],
+    list: LoadList<'_>,
     shape: Unrolled,
-    count: u16,
     held: &mut [u16],
     ticks: &mut [u32],
     slots: &mut [u8],
 ) -> Result<Display, Refusal>
-    requires { MayRun (call job.now shape.rounds) list.now shape count held.old ticks.old slots.old }
-    ensures { Noted (length (draws_of (call job.now shape.rounds))) (runs_along (call job.now shape.rounds) count list.now) result ticks.new slots.new }
+    requires { MayRun (call job.now shape.rounds) shape held.old ticks.old slots.old }
+    ensures { Noted (length (draws_of (call job.now shape.rounds))) (runs_along (call job.now shape.rounds) list.entry.count list.entry.bytes.now) result ticks.new slots.new }
 {
     let mut d = start();
-    while let Some(turn) = take_turn(job, list, shape, count, held, d)? {
+    while let Some(turn) = take_turn(job, list, shape, held, d)? {
         note(ticks, slots, d.next, d.tick, turn.on_record.happening);
         d = turn.later;
     }
@@ -84,21 +82,20 @@ pub fn run_list(
 // The same run with the account of a draw, which is of this symbol. No draw is noted.
 pub fn run_told(
     job: &[u8],
-    list: &[u8],
+    list: LoadList<'_>,
     shape: Unrolled,
-    count: u16,
     held: &mut [u16],
     asked: u32,
     symbol: u16,
 ) -> Result<Account, Refusal>
-    requires { MayRunTold (call job.now shape.rounds) list.now shape count held.old }
-    ensures { RanSo (job_of (call job.now shape.rounds)) (events_in count (drop head_size list.now)) asked symbol result }
+    requires { MayRunTold (call job.now shape.rounds) shape held.old }
+    ensures { RanSo (job_of (call job.now shape.rounds)) (events_along list.entry.count list.entry.bytes.now) asked symbol result }
 {
     let mut d = start();
     let mut account = untold();
     loop {
-        let out = going_out(list, count, held, d);
-        let Some(turn) = take_turn(job, list, shape, count, held, d)? else {
+        let out = going_out(list, held, d);
+        let Some(turn) = take_turn(job, list, shape, held, d)? else {
             return Ok(account);
         };
         let later = turn.later;

@@ -1,17 +1,12 @@
 -- The plans by their names. (Document 01, "The four plans")
-use Rattle.std.specs.Prelude.{ℕ, suc, Bool, true, false, cond, ◌&&◌, List, [], ◌∷◌, eqb}
-
--- Whether two rows of bytes are the same.
-unfoldable pub same_bytes : List ℕ → List ℕ → Bool
-same_bytes [] [] = true
-same_bytes [] (y ∷ b) = false
-same_bytes (x ∷ a) [] = false
-same_bytes (x ∷ a) (y ∷ b) = eqb x y && same_bytes a b
+use Rattle.std.specs.Prelude.{ℕ, suc, cond, List, [], ◌∷◌, slice_index_or, Option, Some, None, bytes_eq}
+use Rattle.rules.specs.declared.Plan.{Plan}
+use Rattle.rules.specs.declared.Plan.TheVariants.{Aggressive, Conservative, Opt, Lru}
 
 -- The first place of a name among some names, or how many they are.
 unfoldable pub name_at : List ℕ → List (List ℕ) → ℕ
 name_at name [] = 0
-name_at name (other ∷ names) = cond (same_bytes name other) 0 (suc (name_at name names))
+name_at name (other ∷ names) = cond (bytes_eq name other) 0 (suc (name_at name names))
 
 -- The names in the order of the plans' numbers: aggressive, conservative, opt, lru.
 abbrev pub names : List (List ℕ)
@@ -21,6 +16,21 @@ names =
     ∷ (111 ∷ 112 ∷ 116 ∷ [])
     ∷ (108 ∷ 114 ∷ 117 ∷ [])
     ∷ []
+
+-- The number and the name of each plan.
+abbrev pub plan_number : Plan → ℕ
+plan_number Aggressive = 0
+plan_number Conservative = 1
+plan_number Opt = 2
+plan_number Lru = 3
+
+abbrev pub plan_name : Plan → List ℕ
+plan_name plan = slice_index_or names (plan_number plan) []
+
+-- The number of a plan; 4, which no plan has, where there is none.
+abbrev pub number_or_none : Option Plan → ℕ
+number_or_none None = 4
+number_or_none (Some plan) = plan_number plan
 
 -- The number of the plan that has a name; 4, which no plan has, where none does.
 abbrev pub plan_named : List ℕ → ℕ

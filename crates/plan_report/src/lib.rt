@@ -5,5 +5,5 @@
 mod names;
 mod summary;
 
-pub use names::plan_argument;
+pub use names::{name_of, number_of, plan_argument};
 pub use summary::print_summary;

@@ -1,38 +1,45 @@
-// The plans by their names: the number of a name, and of the name that an argument of the program has.
+// The plans by their names and their numbers: what an argument of the program names, what a summary prints, what a call is asked with.
 ghost use Rattle.std.specs.Prelude.{◌≡◌};
-ghost use Rattle.plan_report.specs.Names.{same_bytes, plan_named};
+ghost use Rattle.plan_report.specs.Names.{plan_number, plan_name, number_or_none, plan_named};
 
+use rules::Plan;
 use std::rt::Env;
+use std::str;
 
-fn is(name: &[u8], other: &[u8]) -> bool
-    ensures { result ≡ same_bytes name.now other.now }
+// The number by which a call is asked for this plan.
+pub fn number_of(plan: Plan) -> u32
+    ensures { result ≡ plan_number plan }
 {
-    name == other
+    plan as u32
 }
 
-// A name that no plan has gets 4, a number that no plan has.
-#[tactic(auto, unfolding(crate::specs::Names::name_at))]
-pub fn plan_of(name: &[u8]) -> u32
-    ensures { result ≡ plan_named name.now }
+pub fn name_of(plan: Plan) -> &'static str
+    ensures { result.now ≡ plan_name plan }
 {
-    if is(name, b"aggressive") {
-        return 0;
+    match plan {
+        Plan::Aggressive => "aggressive",
+        Plan::Conservative => "conservative",
+        Plan::Opt => "opt",
+        Plan::Lru => "lru",
     }
-    if is(name, b"conservative") {
-        return 1;
-    }
-    if is(name, b"opt") {
-        return 2;
-    }
-    if is(name, b"lru") {
-        return 3;
-    }
-    4
 }
 
-// The longest name has 12 bytes. An argument that is missing or longer reads as no bytes, the name of no plan.
-pub fn plan_argument<E: Env>(rt: &E, argument: usize) -> u32 {
+#[tactic(auto, using(crate::proofs::Named::by_name))]
+pub fn plan_of(name: &[u8]) -> Option<Plan>
+    ensures { number_or_none result ≡ plan_named name.now }
+{
+    match str::from_utf8(name) {
+        Ok("aggressive") => Some(Plan::Aggressive),
+        Ok("conservative") => Some(Plan::Conservative),
+        Ok("opt") => Some(Plan::Opt),
+        Ok("lru") => Some(Plan::Lru),
+        _ => None,
+    }
+}
+
+// The longest name has 12 bytes. An argument that is missing or longer is the name of no plan.
+pub fn plan_argument<E: Env>(rt: &E, argument: usize) -> Option<Plan> {
     let mut name = [0u8; 12];
-    let length = rt.arg(argument, &mut name).unwrap_or(0);
+    let length = rt.arg(argument, &mut name).ok()?;
     plan_of(&name[..length])
 }

@@ -67,6 +67,7 @@ fn bad_symbols(job: &[u8]) -> bool
 }
 
 // 17. No round, or more draws in all rounds than a job may have.
+#[tactic(auto, unfolding(rules::specs::Refusals::bad_rounds))]
 fn bad_rounds(job: &[u8], rounds: u32) -> bool
     ensures { result ≡ bad_rounds (call job.now rounds) }
 {
@@ -106,6 +107,7 @@ pub fn starting_symbol(job: &[u8], slot: u8) -> u16
 }
 
 // What each of the 64 slots of a display holds at the start of a job of this many slots.
+#[tactic(auto, using(crate::proofs::Rows::row_more))]
 pub fn starting_slots(job: &[u8], slots: u8) -> [u16; MOST_SLOTS as usize]
     ensures { result ≡ row64 slots job.now }
 {

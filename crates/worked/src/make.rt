@@ -1,52 +1,56 @@
-// The jobs of the cases: job a of document 01, job a with a number changed, and a job of any size.
-ghost use Rattle.std.specs.Prelude.{◌<◌};
+// The jobs and lists of the cases: job a of document 01, job a with a number changed, a job of any size, and a list of up to two events.
+ghost use Rattle.std.specs.Prelude.{◌≤◌, length};
+
+use rules::Event;
+use std::io;
+use std::io::Write;
 
 // Two slots, load time 4, slots 1 2, draws 1 2 3 1.
-pub const JOB_A: [u8; 22] = [
-    0, 0, 0, 18, 1, 2, 0, 4, 0, 4, 0, 1, 0, 2, 0, 1, 0, 2, 0, 3, 0, 1,
-];
-
-// Writes a number of two bytes, where the room has place for it.
-fn put_number(room: &mut [u8], at: u32, number: u16) {
-    let high = at as usize;
-    let low = high + 1;
-    if low < room.len() {
-        room[high] = (number / 256) as u8;
-        room[low] = (number % 256) as u8;
-    }
-}
+pub const JOB_A: [u8; 22] =
+    *b"\x00\x00\x00\x12\x01\x02\x00\x04\x00\x04\x00\x01\x00\x02\x00\x01\x00\x02\x00\x03\x00\x01";
 
 // Job a with another number in the two bytes from this place on.
-pub fn changed(at: u32, number: u16) -> [u8; 22] {
+pub fn changed(at: usize, number: u16) -> [u8; 22] {
     let mut job = JOB_A;
-    put_number(&mut job, at, number);
+    for (place, byte) in job.iter_mut().skip(at).zip(number.to_be_bytes()) {
+        *place = byte;
+    }
     job
 }
 
-// Length, version, slots, load time and draws.
-fn put_head(room: &mut [u8], slots: u8, time: u16, draws: u16) {
-    let length = 6 + 2 * slots as u32 + 2 * draws as u32;
-    put_number(room, 0, (length / 65536) as u16);
-    put_number(room, 2, (length % 65536) as u16);
-    put_number(room, 4, 256 + slots as u16);
-    put_number(room, 6, time);
-    put_number(room, 8, draws);
-}
-
-// This many symbols from this place on, in steps round the symbols from 1 to 97: enough that no display holds them all.
-fn put_round(room: &mut [u8], from: u32, count: u16, step: u16)
-    requires { from < 65536 }
-{
-    let mut passed: u32 = 0;
+// This many symbols, in steps round the symbols from 1 to 97: enough that no display holds them all.
+fn put_round<W: Write>(to: &mut W, count: u16, step: u16) -> io::Result<()> {
     for place in 0..count {
-        put_number(room, from + 2 * place as u32, (passed + 1) as u16);
-        passed = (passed + step as u32) % 97;
+        let symbol = (u64::from(place) * u64::from(step) % 97 + 1) as u16;
+        to.write_all(&symbol.to_be_bytes())?;
     }
+    Ok(())
 }
 
-// A job whose slots hold the symbols from 1 to k, and whose draws go in steps round the 97.
-pub fn put_job(room: &mut [u8], slots: u8, time: u16, draws: u16, step: u16) {
-    put_head(room, slots, time, draws);
-    put_round(room, 10, slots as u16, 1);
-    put_round(room, 10 + 2 * slots as u32, draws, step);
+// A job whose slots hold the symbols from 1 to k, and whose draws go in steps round the 97: length, version, slots, load time, draws,
+// and the symbols.
+pub fn put_job(mut to: &mut [u8], slots: u8, time: u16, draws: u16, step: u16) -> io::Result<()> {
+    let length = 6 + 2 * u32::from(slots) + 2 * u32::from(draws);
+    to.write_all(&length.to_be_bytes())?;
+    to.write_all(&[1, slots])?;
+    to.write_all(&time.to_be_bytes())?;
+    to.write_all(&draws.to_be_bytes())?;
+    put_round(&mut to, u16::from(slots), 1)?;
+    put_round(&mut to, draws, step)
+}
+
+pub fn event(tick: u32, slot: u8, symbol: u16) -> Event {
+    Event { tick, slot, symbol }
+}
+
+// The list of up to two events, in the front of the room.
+pub fn put_list<'a>(room: &'a mut [u8; 21], events: &[Event]) -> &'a [u8]
+    requires { length events.now ≤ 2 }
+{
+    let count = events.len() as u16;
+    sheet::put_head(room, count);
+    for (index, event) in (0..count).zip(events) {
+        sheet::put_event(room, index, event.tick, event.slot, event.symbol);
+    }
+    &room[..7 + 7 * events.len()]
 }

@@ -5,23 +5,21 @@ use std::io;
 use std::io::Write;
 
 pub fn rows<W: Write>(out: &mut W) -> io::Result<()> {
-    let job_a = JOB_A;
-    plan_by_all(out, b"row a", &job_a)?;
-    let job_b = changed(20, 2);
-    plan_by_all(out, b"row b", &job_b)?;
+    plan_by_all(out, "row a", &JOB_A)?;
+    plan_by_all(out, "row b", &changed(20, 2))?;
     plan_by_all(
         out,
-        b"row c",
+        "row c",
         b"\x00\x00\x00\x1A\x01\x04\x00\x03\x00\x06\x00\x01\x00\x02\x00\x03\x00\x04\x00\x01\x00\x02\x00\x03\x00\x04\x00\x05\x00\x01",
     )?;
     plan_by_all(
         out,
-        b"row d",
+        "row d",
         b"\x00\x00\x00\x0C\x01\x01\x00\x01\x00\x02\xFF\xFF\x00\x07\x00\x07",
     )?;
     plan_by_all(
         out,
-        b"n 0",
+        "n 0",
         b"\x00\x00\x00\x08\x01\x01\x00\x04\x00\x00\x00\x01",
     )
 }
@@ -31,55 +29,53 @@ pub fn rows<W: Write>(out: &mut W) -> io::Result<()> {
 pub fn ties<W: Write>(out: &mut W) -> io::Result<()> {
     plan_by_all(
         out,
-        b"came free first",
+        "came free first",
         b"\x00\x00\x00\x10\x01\x02\x00\x02\x00\x03\x00\x01\x00\x02\x00\x02\x00\x01\x00\x03",
     )?;
     plan_by_all(
         out,
-        b"not yet drawn",
+        "not yet drawn",
         b"\x00\x00\x00\x12\x01\x03\x00\x01\x00\x03\x00\x01\x00\x02\x00\x09\x00\x02\x00\x01\x00\x03",
     )?;
     plan_by_all(
         out,
-        b"a free slot first",
+        "a free slot first",
         b"\x00\x00\x00\x14\x01\x03\x00\x02\x00\x04\x00\x01\x00\x02\xFF\xFF\x00\x02\x00\x01\x00\x03\x00\x04",
     )?;
     plan_by_all(
         out,
-        b"drawn again",
+        "drawn again",
         b"\x00\x00\x00\x16\x01\x03\x00\x01\x00\x05\x00\x01\x00\x02\x00\x03\x00\x01\x00\x03\x00\x02\x00\x04\x00\x01",
     )
 }
 
 // Job a with one number changed, by the first plan.
-fn with_number<W: Write>(out: &mut W, name: &[u8], at: u32, number: u16) -> io::Result<()> {
-    let job = changed(at, number);
-    plan_job(out, name, &job, 0)
+fn with_number<W: Write>(out: &mut W, name: &str, at: usize, number: u16) -> io::Result<()> {
+    plan_job(out, name, &changed(at, number), 0)
 }
 
 pub fn refused_jobs<W: Write>(out: &mut W) -> io::Result<()> {
-    plan_job(out, b"plan 1, no bytes", b"", 0)?;
-    with_number(out, b"plan 2, version 2", 4, 514)?;
-    with_number(out, b"plan 3, 65 slots", 4, 321)?;
-    with_number(out, b"plan 3, no load time", 6, 0)?;
-    with_number(out, b"plan 4, a draw more than the length has", 8, 5)?;
-    with_number(out, b"plan 5, a symbol in two slots", 12, 1)
+    plan_job(out, "plan 1, no bytes", b"", 0)?;
+    with_number(out, "plan 2, version 2", 4, 514)?;
+    with_number(out, "plan 3, 65 slots", 4, 321)?;
+    with_number(out, "plan 3, no load time", 6, 0)?;
+    with_number(out, "plan 4, a draw more than the length has", 8, 5)?;
+    with_number(out, "plan 5, a symbol in two slots", 12, 1)
 }
 
 // 6: there are four plans. 7: four draws need 35 bytes of room.
 pub fn refused_calls<W: Write>(out: &mut W) -> io::Result<()> {
-    let job = JOB_A;
-    plan_job(out, b"plan 6, number 4", &job, 4)?;
-    plan_job(out, b"plan 6, number 4,294,967,295", &job, 4294967295)?;
+    plan_job(out, "plan 6, number 4", &JOB_A, 4)?;
+    plan_job(out, "plan 6, number 4,294,967,295", &JOB_A, 4294967295)?;
     let mut short_room = [0u8; 34];
-    plan_in(out, &mut short_room, b"plan 7, 34 bytes", &job, 0, 1)?;
-    plan_in(out, &mut short_room, b"plan 6, before 7", &job, 4, 1)?;
+    plan_in(out, &mut short_room, "plan 7, 34 bytes", &JOB_A, 0, 1)?;
+    plan_in(out, &mut short_room, "plan 6, before 7", &JOB_A, 4, 1)?;
     let mut room = [0u8; 35];
-    plan_in(out, &mut room, b"plan in 35 bytes", &job, 0, 1)
+    plan_in(out, &mut room, "plan in 35 bytes", &JOB_A, 0, 1)
 }
 
 pub fn largest<W: Write>(out: &mut W) -> io::Result<()> {
     let mut job = [0u8; 8330];
-    put_job(&mut job, 64, 1000, 4096, 5);
-    plan_by_all(out, b"the largest job", &job)
+    put_job(&mut job, 64, 1000, 4096, 5)?;
+    plan_by_all(out, "the largest job", &job)
 }

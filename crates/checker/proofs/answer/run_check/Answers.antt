@@ -1,57 +1,49 @@
 -- A reading or a test refuses, in the order of the definition, or the draws of the run are handed out.
-use Rattle.std.proofs.Common.{refl, length}
+use Rattle.std.proofs.Common.{refl, sym, ap, ◌∙◌}
 use Rattle.std.proofs.lemmas.Result.{err_from_is_err_and}
+use Rattle.rules.specs.declared.refusal.Refusal.TheVariants.{ListForm}
 use Rattle.rules.specs.Job.{call}
-use Rattle.laws.proofs.Verdicts.{gives, end, stop, step}
-use Rattle.sheet.proofs.Lists.{at_order, past_order}
-use Rattle.checker.proofs.Answers.{room_test_lem, past_both, refuses_met, hands_out_read, roomy_read}
+use Rattle.laws.proofs.Jobs.{refused_call, past_call}
+use Rattle.sheet.proofs.Lists.{at_list}
+use Rattle.checker.proofs.Answers.{refuses, room_refused, ticks_refused, hands_out, roomy_read}
 use Rattle.checker.proofs.answer.run_check.Goals as goal
 
-pub returns-in_err-opening : goal.returns-in_err-opening
-returns-in_err-opening c =
-    let a = c.args in
+pub returns-in_err-shape : goal.returns-in_err-shape
+returns-in_err-shape c =
     let p = err_from_is_err_and c.from_residual.result c.from_residual.ensures.1 in
-    rw (p.1, p.2) (refuses_met _ _ _ _ _ (c.in_err-opening.ensures (length a.ticks.now) (length a.slots.now)))
+    rw (p.1, p.2) (refuses _ _ _ _ _ (refused_call _ c.read_call.result _ _ c.read_call.ensures c.in_err-shape.was))
+
+pub returns-in_err-list : goal.returns-in_err-list
+returns-in_err-list c =
+    let r = c.from_residual-in_err-list in
+    let p = err_from_is_err_and r.result r.ensures.1 in
+    let (none, form) = c.in_err-list.ensures in
+    rw (p.1, p.2, form)
+    (refuses _ _ _ _ ListForm (past_call _ c.read_call.result _ c.read_call.ensures c.in_ok-shape.was (at_list c.args.list.now _ refl none)))
 
 pub returns-then-short_room : goal.returns-then-short_room
 returns-then-short_room c =
-    let a = c.args in
-    let asked = call a.job.now a.rounds in
-    let o = c.in_ok-opening.opening in
-    let (taken, read) = c.in_ok-opening.ensures in
-    refuses_met _ _ _ _ _
-    (gives _ _
-    (past_both asked a.list.now o.shape o.count taken read
-    (stop c.short_room.result (room_test_lem asked _ o.shape (length a.ticks.now) (length a.slots.now) c.short_room.result refl taken c.short_room.ensures)
-    c.if-short_room.true)))
+    let l = c.in_ok-list in
+    room_refused (call c.args.job.now c.args.rounds) c.args.list.now _ _ _ l.list.count l.list.bytes.now (sym c.read_call.ensures ∙ c.in_ok-shape.was)
+    l.ensures.0 (ap (λ (b : _). b.now) l.ensures.1) c.short_room.result c.short_room.ensures c.if-short_room.true
 
-pub returns-then-first-opening : goal.returns-then-first-opening
-returns-then-first-opening c =
-    let a = c.args in
-    let asked = call a.job.now a.rounds in
-    let o = c.in_ok-opening.opening in
-    let (taken, read) = c.in_ok-opening.ensures in
-    refuses_met _ _ _ _ _
-    (gives _ _
-    (past_both asked a.list.now o.shape o.count taken read
-    (step c.short_room.result (room_test_lem asked _ o.shape (length a.ticks.now) (length a.slots.now) c.short_room.result refl taken c.short_room.ensures)
-    c.if-short_room.false
-    (at_order a.list.now _ o.count c.first_bad_tick-first.result refl read c.first_bad_tick-first.ensures c.if-first-opening.true))))
+pub returns-in_err-check_ticks : goal.returns-in_err-check_ticks
+returns-in_err-check_ticks c =
+    let l = c.in_ok-list in
+    let r = c.from_residual-in_err-check_ticks in
+    let p = err_from_is_err_and r.result r.ensures.1 in
+    rw (p.1, p.2)
+    (ticks_refused (call c.args.job.now c.args.rounds) c.args.list.now _ _ _ l.list.count l.list.bytes.now (sym c.read_call.ensures ∙ c.in_ok-shape.was)
+    l.ensures.0 (ap (λ (b : _). b.now) l.ensures.1) c.short_room.result c.short_room.ensures c.if-short_room.false _ c.in_err-check_ticks.ensures)
 
 pub hand_out-requires : goal.hand_out-requires
 hand_out-requires c =
-    let (taken, read) = c.in_ok-opening.ensures in
-    roomy_read (call c.args.job.now c.args.rounds) c.args.list.now _ _ _ _ c.short_room.result taken read c.short_room.ensures c.if-short_room.false
+    roomy_read (call c.args.job.now c.args.rounds) _ _ _ c.short_room.result (sym c.read_call.ensures ∙ c.in_ok-shape.was) c.short_room.ensures
+    c.if-short_room.false
 
 pub returns : goal.returns
 returns c =
-    let a = c.args in
-    let asked = call a.job.now a.rounds in
-    let o = c.in_ok-opening.opening in
-    let (taken, read) = c.in_ok-opening.ensures in
-    hands_out_read _ _ _ _ o.shape o.count _ _ _ taken read c.hand_out.ensures
-    (gives _ _
-    (past_both asked a.list.now o.shape o.count taken read
-    (step c.short_room.result (room_test_lem asked _ o.shape (length a.ticks.now) (length a.slots.now) c.short_room.result refl taken c.short_room.ensures)
-    c.if-short_room.false
-    (past_order a.list.now _ o.count c.first_bad_tick-first.result refl read c.first_bad_tick-first.ensures c.if-first-opening.false end))))
+    let l = c.in_ok-list in
+    hands_out (call c.args.job.now c.args.rounds) c.args.list.now _ _ _ l.list.count l.list.bytes.now (sym c.read_call.ensures ∙ c.in_ok-shape.was)
+    l.ensures.0 (ap (λ (b : _). b.now) l.ensures.1) c.short_room.result c.short_room.ensures c.if-short_room.false c.in_ok-check_ticks.field-0
+    c.in_ok-check_ticks.ensures _ _ _ c.hand_out.ensures

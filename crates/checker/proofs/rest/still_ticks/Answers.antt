@@ -4,11 +4,11 @@ use Rattle.rules.specs.LoadList.{events_in, head_size}
 use Rattle.laws.proofs.Events.{length-events_in, due_none}
 use Rattle.checker.proofs.rest.still_ticks.Goals as goal
 
-pub returns-then-count-d : goal.returns-then-count-d
-returns-then-count-d c =
+pub returns-then-list-d : goal.returns-then-list-d
+returns-then-list-d c =
     let d = c.args.d in
-    let events = events_in c.args.count (drop head_size c.args.list.now) in
-    let all = length-events_in c.args.count (drop head_size c.args.list.now) in
+    let events = events_in c.args.list.count (drop head_size c.args.list.bytes.now) in
+    let all = length-events_in c.args.list.count (drop head_size c.args.list.bytes.now) in
     record {
       none_due = λ j less. due_none events d.loads (d.tick + j) (omega arith);
       before_end = λ ends. omega arith;
@@ -17,7 +17,7 @@ returns-then-count-d c =
 
 pub returns-then-d-eq0 : goal.returns-then-d-eq0
 returns-then-d-eq0 c =
-    let all = length-events_in c.args.count (drop head_size c.args.list.now) in
+    let all = length-events_in c.args.list.count (drop head_size c.args.list.bytes.now) in
     record {
       none_due = c.ticks_ahead-ahead.ensures;
       before_end = λ ends. c.if-d-eq0.true;

@@ -1,7 +1,8 @@
 -- The loop goes on as `Walking` says, and where a turn ends the run the draws noted are those of the run.
-use Rattle.std.proofs.Common.{refl, ap, ◌∙◌, length, drop, arith}
+use Rattle.std.proofs.Common.{refl, ap, ◌∙◌, length, arith}
+use Rattle.std.proofs.lemmas.Result.{err_from_is_err_and}
 use Rattle.rules.specs.Job.{call, job_of}
-use Rattle.rules.specs.LoadList.{events_in, head_size}
+use Rattle.checker.specs.Follow.{events_along}
 use Rattle.rules.specs.Refusals.{follow, most_ticks}
 use Rattle.display.specs.View.{at_first, onward}
 use Rattle.display.proofs.Going.{going_may}
@@ -19,7 +20,7 @@ loop-turn-init c =
       tick_places = refl;
       slot_places = refl;
       history = at_first (job_of asked);
-      walking = walking_first asked (events_in a.count (drop head_size a.list.now)) a.held.now c.start-d.result a.ticks.now a.slots.now
+      walking = walking_first asked (events_along a.list.count a.list.bytes.now) a.held.now c.start-d.result a.ticks.now a.slots.now
           c.requires.starts c.start-d.ensures;
     }
 
@@ -29,30 +30,38 @@ take_turn-requires c =
     let job = job_of (call a.job.now a.shape.rounds) in
     let kept = c.loop-turn.invariant in
     record {
-      read = c.requires.read;
-      all_slots = kept.same_slots ∙ starting_size c.requires.read.limits _ c.requires.starts;
-      rests = going_may job (follow (events_in a.count (drop head_size a.list.now))) (most_ticks job) _ _ _ kept.walking.along;
+      limits = c.requires.limits;
+      all_slots = kept.same_slots ∙ starting_size c.requires.limits _ c.requires.starts;
+      rests = going_may job (follow (events_along a.list.count a.list.bytes.now)) (most_ticks job) _ _ _ kept.walking.along;
       loads = kept.walking.along.loads;
     }
+
+pub returns-in_err-turn : goal.returns-in_err-turn
+returns-in_err-turn c =
+    let a = c.args in
+    let p = err_from_is_err_and c.from_residual.result c.from_residual.ensures.1 in
+    rw (p.1, p.2)
+    (closed (job_of (call a.job.now a.shape.rounds)) (events_along a.list.count a.list.bytes.now) _ _ _ _ _ c.loop-turn.invariant.walking
+    _ c.in_err-turn.ensures).notes
 
 pub returns : goal.returns
 returns c =
     let a = c.args in
-    (closed (job_of (call a.job.now a.shape.rounds)) (events_in a.count (drop head_size a.list.now)) _ _ _ _ _ c.loop-turn.invariant.walking
+    (closed (job_of (call a.job.now a.shape.rounds)) (events_along a.list.count a.list.bytes.now) _ _ _ _ _ c.loop-turn.invariant.walking
     _ (rw c.in_default.is at c.in_ok-turn.ensures)).notes
 
 pub loop-turn-preserved : goal.loop-turn-preserved
 loop-turn-preserved c =
     let a = c.args in
     let job = job_of (call a.job.now a.shape.rounds) in
-    let events = events_in a.count (drop head_size a.list.now) in
+    let events = events_along a.list.count a.list.bytes.now in
     let l = c.loop-turn in
     let kept = l.invariant in
     let turn = c.in-Some.turn in
     let t : GoesOn job events l.held c.take_turn.new.held l.d turn.on_record turn.later = rw c.in-Some.is at c.in_ok-turn.ensures in
     let on = turn.on_record in
-    let many = c.requires.read.limits.many_draws in
-    let few = c.requires.read.limits.few_draws in
+    let many = c.requires.limits.many_draws in
+    let few = c.requires.limits.few_draws in
     let within = t.within in
     let tick_room = kept.tick_places ∙ c.requires.tick_room in
     let slot_room = kept.slot_places ∙ c.requires.slot_room in
