@@ -1,5 +1,5 @@
 -- The tests are walked in the order of the definition, whatever that order is. A run that is over is written as its loads are noted.
-use Rattle.std.proofs.Common.{ℕ, ◌≡◌, ◌∙◌, refl, sym, ap, Ok, arith}
+use Rattle.std.proofs.Common.{ℕ, ◌≡◌, ◌∙◌, sym, ap, Ok, arith}
 use lib.ListN.{length-replicate}
 use Rattle.std.proofs.lemmas.Result.{err_from_is_err_and}
 use Rattle.rules.specs.declared.refusal.Refusal.TheVariants.{PlanNumber, ShortRoom}
