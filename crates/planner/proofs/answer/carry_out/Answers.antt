@@ -34,13 +34,6 @@ returns-then-short_room c =
     let (comes, writes) = refuses _ c.args.plan c.args.room.now ShortRoom (search walk depth 20 fits 4000) in
     record { comes_to = comes; writes = writes }
 
-pub run_of-requires : goal.run_of-requires
-run_of-requires c =
-    let has =
-    roomy c.args.job.now c.args.rounds c.read_call.result c.in_ok-shape.shape c.args.room.now c.short_room.result c.read_call.ensures
-    c.in_ok-shape.was c.short_room.ensures c.if-short_room.false in
-    record { taken = has.taken; places = length-replicate {A = ℕ} 4096 0 }
-
 pub overflow_cast-d : goal.overflow_cast-d
 overflow_cast-d c =
     let has =
