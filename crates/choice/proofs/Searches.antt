@@ -1,17 +1,16 @@
 -- The searches along a row: what a search of the library stops at is the first place by the definition.
-use Prim.Native.Nat.{ℕ, ◌<◌, ◌≤◌}
+use Prim.Native.Nat.{ℕ, ◌<◌}
 use native.Mathlib.Omega.{arith}
 use native.Mathlib.Numerals.{add-one}
 use mathlib.Core.Bool.{true, false}
 use mathlib.Core.Path.{◌≡◌, refl, sym, ◌∙◌}
-use mathlib.Core.List.{List, [], ◌∷◌}
+use mathlib.Core.List.{List}
 use lib.ListN.{length}
-use Rattle.std.specs.Prelude.{Option, MatchOption, unwrap_or}
+use Rattle.std.specs.Prelude.{Option, Some, None, MatchOption, unwrap_or}
 use Rattle.std.specs.List.{AllWithin, HoldsAt}
 use Rattle.std.proofs.lemmas.Iterator.{index_from_first}
 use Rattle.rules.specs.Basics.{place, stands}
 use Rattle.rules.specs.Plans.{missing}
-use Rattle.laws.proofs.Cases.{by_test}
 use Rattle.laws.proofs.Search.{place_within, place_cons_here, place_cons_further}
 use Rattle.display.specs.Search.{Found}
 use Rattle.choice.specs.Rows.{Missed}
@@ -33,18 +32,15 @@ found_first x row r n first is =
     record { first = omega arith; within = omega arith }
 
 -- A search for a draw that no slot serves.
-missing_within : (slots rest : List ℕ) → missing slots rest ≤ length rest
-unfolding missing
-missing_within slots [] = omega arith
-missing_within slots (y ∷ rest) =
-    by_test (stands y slots) (λ held. rw held (omega (arith, missing_within slots rest))) (λ absent. rw absent (omega arith))
+missed_at : (slots rest : List ℕ) (r : Option ℕ) → First (λ y. stands y slots ≡ false) (λ y. stands y slots ≡ true) rest r
+    → missing slots rest ≡ unwrap_or r (length rest) → Missed slots rest r
+missed_at slots rest None first found = found
+missed_at slots rest (Some place) first found = (sym found, first.0)
 
-pub missed_first : (slots rest : List ℕ) (r : Option ℕ) (n : ℕ) → First (λ y. stands y slots ≡ false) (λ y. stands y slots ≡ true) rest r
-    → n ≡ unwrap_or r (length rest) → Missed slots rest n
+pub missed_first : (slots rest : List ℕ) (r : Option ℕ) → First (λ y. stands y slots ≡ false) (λ y. stands y slots ≡ true) rest r
+    → Missed slots rest r
 unfolding missing
-missed_first slots rest r n first is =
-    let found : missing slots rest ≡ unwrap_or r (length rest) =
-    index_from_first (missing slots) (λ y. stands y slots ≡ false) (λ y. stands y slots ≡ true) refl (λ y l absent. rw absent)
-    (λ y l held. rw held (sym (add-one (missing slots l)))) rest r first in
-    let within = missing_within slots rest in
-    record { first = omega arith; within = omega arith }
+missed_first slots rest r first =
+    missed_at slots rest r first
+    (index_from_first (missing slots) (λ y. stands y slots ≡ false) (λ y. stands y slots ≡ true) refl (λ y l absent. rw absent)
+    (λ y l held. rw held (sym (add-one (missing slots l)))) rest r first)

@@ -1,5 +1,5 @@
 -- The draws of a call as one row, and the first of them that no slot serves.
-use Rattle.std.specs.Prelude.{ℕ, ◌-◌, ◌≤◌, ◌≡◌, List, ◌++◌, length, replicate}
+use Rattle.std.specs.Prelude.{ℕ, ◌-◌, ◌<◌, ◌≡◌, List, ◌++◌, length, replicate, Option, MatchOption}
 use Rattle.rules.specs.Job.{Call, draws_of, most_draws}
 use Rattle.rules.specs.Plans.{missing}
 
@@ -7,7 +7,6 @@ use Rattle.rules.specs.Plans.{missing}
 abbrev pub row_of : Call → List ℕ
 row_of asked = draws_of asked ++ replicate (most_draws - length (draws_of asked)) 0
 
--- The first draw that no slot serves, or the number of draws.
-pub record Missed (slots rest : List ℕ) (r : ℕ) : Type 0 where
-  pub first : r ≡ missing slots rest
-  pub within : r ≤ length rest
+-- The first draw that no slot serves, or that there is none.
+abbrev pub Missed : List ℕ → List ℕ → Option ℕ → Type 0
+Missed slots rest r = MatchOption r (missing slots rest ≡ length rest) (λ place. (place ≡ missing slots rest) × (place < length rest))

@@ -25,10 +25,7 @@ fn ask_aggressive(slots: &[u16], rest: &[u16]) -> Option<Load>
     requires { WithinLimits slots.now rest.now }
     ensures { (job : Job) (s : State) → Quiet job s slots.now → s.rest ≡ rest.now → result ≡ (aggressive job).asks s }
 {
-    let place = missing(slots, rest);
-    if place == rest.len() {
-        return None;
-    }
+    let place = missing(slots, rest)?;
     let ranks = ranks_of(slots, rest);
     let count = slots.len();
     let slot = first_greatest(&ranks[..count]);

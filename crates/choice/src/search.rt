@@ -32,11 +32,9 @@ pub fn served(slots: &[u16], symbol: u16) -> bool
     slot_of(slots, symbol) < slots.len()
 }
 
-// The first of the draws that remain whose symbol is in no slot, or the number of them.
-pub fn missing(slots: &[u16], rest: &[u16]) -> usize
+// The first of the draws that remain whose symbol is in no slot, if there is one.
+pub fn missing(slots: &[u16], rest: &[u16]) -> Option<usize>
     ensures { Missed slots.now rest.now result }
 {
-    rest.iter()
-        .position(|draw| !served(slots, *draw))
-        .unwrap_or(rest.len())
+    rest.iter().position(|draw| !served(slots, *draw))
 }

@@ -5,22 +5,21 @@ use mathlib.Core.Path.{◌≡◌, refl, sym, ap, subst, ◌∙◌}
 use mathlib.Core.Bool.{Bool, false, cond}
 use mathlib.Core.List.{List, [], ◌∷◌, map}
 use lib.ListN.{length, take, length-take}
-use lib.Dec.{ltb, eqb}
+use lib.Dec.{ltb}
 use borrow.Author.Tests.{ltb-false, lt-ltb}
 use Rattle.std.specs.Prelude.{Result, Ok, Err}
 use Rattle.rules.specs.declared.refusal.Refusal.{Refusal}
 use Rattle.rules.specs.declared.Unrolled.{Unrolled}
-use Rattle.rules.specs.Order.{Test, test, Verdict, clear, met, first_of}
-use Rattle.rules.specs.Job.{Call, call, unrolled, draws_of, job_of, most_draws}
+use Rattle.rules.specs.Order.{Test, test, Verdict, clear, met}
+use Rattle.rules.specs.Job.{Call, call, draws_of, job_of, most_draws}
 use Rattle.rules.specs.LoadList.{head_size, event_size, list_bytes}
 use Rattle.rules.specs.Display.{State, Run, Loaded, going, refused, finished}
 use Rattle.rules.specs.declared.Plan.{Plan}
 use Rattle.rules.specs.declared.Plan.TheVariants.{Aggressive, Conservative, Opt, Lru}
 use Rattle.rules.specs.Plans.{run_plan, begun_in, rule_of, last_plan}
 use Rattle.rules.specs.Plans.{plan_number}
-use Rattle.rules.specs.Refusing.{refusal_number, refusal_detail, call_refusal}
-use Rattle.rules.specs.Refusals.{call_tests, read_as, read_call, short_plan, in_time, plan_tests, planned, event_of, written_by, lent}
-use Rattle.laws.proofs.Cases.{by_test}
+use Rattle.rules.specs.Refusing.{refusal_number, refusal_detail}
+use Rattle.rules.specs.Refusals.{read_call, short_plan, in_time, plan_tests, planned, event_of, written_by, lent}
 use Rattle.laws.proofs.Verdicts.{Gives, gives, stop, step}
 use Rattle.laws.specs.Limits.{Limits}
 use Rattle.laws.proofs.Jobs.{limits, proper, same_call, refused_call}

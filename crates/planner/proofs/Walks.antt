@@ -10,7 +10,7 @@ use Rattle.rules.specs.declared.refusal.Refusal.{Refusal}
 use Rattle.rules.specs.declared.Load.{Load}
 use Rattle.rules.specs.declared.Unrolled.{Unrolled}
 use Rattle.rules.specs.Basics.{number16}
-use Rattle.rules.specs.Job.{Job, Call, starting_symbols, draws_of, draws_at, job_of}
+use Rattle.rules.specs.Job.{Job, Call, call, starting_symbols, draws_of, draws_at, job_of}
 use Rattle.rules.specs.LoadList.{last_tick}
 use Rattle.rules.specs.Display.{load, State, Rule, Loaded, loaded, going, refused, then, start, land, idle, beginning, happened, record_of, tick}
 use Rattle.rules.specs.Plans.{asking, earliest, opt, run_plan, begun_in, rule_of}
@@ -18,6 +18,8 @@ use Rattle.rules.specs.Refusals.{in_time}
 use Rattle.laws.proofs.Rows.{length-snoc}
 use Rattle.laws.proofs.Moves.{tick_kept, is_more}
 use Rattle.laws.specs.Limits.{Limits}
+use Rattle.laws.proofs.Jobs.{limits}
+use Rattle.planner.specs.declared.run.TakenJob.{TakenJob}
 use Rattle.display.specs.declared.state.Display.{Display}
 use Rattle.display.specs.declared.tick.Ticked.{Ticked}
 use Rattle.display.specs.View.{History, at_first, view, onward}
@@ -57,6 +59,10 @@ ruled plan job order held held' d r ordered ticks =
       waits = ticks.waits;
       run = λ h e. ticks.run h e ∙ same_tick plan job order (view held h d) (λ one. ordered one (land (view held h d)));
     }
+
+-- A job that was taken keeps to the limits.
+pub limits_of : (job : TakenJob) → Limits (call job.bytes.now job.shape.rounds) job.shape
+limits_of job = limits (call job.bytes.now job.shape.rounds) job.shape job.taken
 
 -- What is asked for with the landed display at hand is what the plan asks for in its state.
 pub asked_landed : {asked : Call} {shape : Unrolled} (plan : ℕ) (order : Option Order) (row held : List ℕ) (d l : Display) (symbol : ℕ) (load : Option Load)

@@ -11,17 +11,13 @@ use Rattle.rules.specs.LoadList.{head_size, event_size}
 use Rattle.rules.specs.Display.{Run, going, refused}
 use Rattle.rules.specs.Plans.{opt, run_plan, begun_in, rule_of, last_plan}
 use Rattle.rules.specs.Refusals.{read_call, in_time}
-use Rattle.laws.specs.Limits.{Limits}
 use Rattle.display.specs.Tick.{Room}
 use Rattle.display.specs.View.{History, view}
 use Rattle.display.specs.declared.state.Display.{Display}
 use Rattle.planner.specs.Loads.{first_loads}
 
--- What a tick of a plan starts from: the row of the draws, as many slots as the job has, counts that can go up by one, and a draw that
--- remains.
-pub record BeforeTick (asked : Call) (shape : Unrolled) (row held : List ℕ) (d : Display) : Type 0 where
-  pub limits : Limits asked shape
-  pub draws : draws_of asked ≡ row
+-- What a tick of a plan starts from: as many slots as the job has, counts that can go up by one, and a draw that remains.
+pub record BeforeTick (shape : Unrolled) (held : List ℕ) (d : Display) : Type 0 where
   pub size : length held ≡ shape.slots
   pub room : Room d
   pub few_loads : d.loads < 4294967295
@@ -46,15 +42,14 @@ pub record Orders (plan : ℕ) (asked : Call) (orders : ℕ) (loads : List ℕ) 
   pub few : orders ≤ length loads
   pub of_opt : plan ≡ 1 → first_loads orders loads ≡ begun_in (run_plan (job_of asked) (opt (job_of asked)))
 
--- A job that was taken, the row of its draws, and the loads that the plan works off.
-pub record Prepared (plan : ℕ) (asked : Call) (shape : Unrolled) (row : List ℕ) (orders : ℕ) (loads : List ℕ) : Type 0 where
-  pub has_places : HasPlaces asked shape loads
-  pub draws : draws_of asked ≡ row
+-- A row of as many places as a job has draws at most, and the loads that the plan works off.
+pub record Prepared (plan : ℕ) (asked : Call) (orders : ℕ) (loads : List ℕ) : Type 0 where
+  pub places : length loads ≡ most_draws
   pub ordered : Orders plan asked orders loads
 
 -- What a run starts from: the same, with the starting symbols in the slots.
-pub record FromStart (plan : ℕ) (asked : Call) (shape : Unrolled) (row held : List ℕ) (orders : ℕ) (loads : List ℕ) : Type 0 where
-  pub prepared : Prepared plan asked shape row orders loads
+pub record FromStart (plan : ℕ) (asked : Call) (held : List ℕ) (orders : ℕ) (loads : List ℕ) : Type 0 where
+  pub prepared : Prepared plan asked orders loads
   pub starts : held ≡ starting_symbols asked.job
 
 -- The run of a plan is over at this display, with these slots and this history. The loads that it began, at most one to a draw, are the

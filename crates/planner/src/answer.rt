@@ -6,7 +6,7 @@ ghost use Rattle.rules.specs.Refusals.{planned, answer_of, written_by, lent};
 ghost use Rattle.rules.specs.Plans.{plan_number};
 ghost use Rattle.planner.specs.Runs.{HasPlaces, Prepared, Ended, PlanOf, ComesTo};
 
-use crate::run::run_plan;
+use crate::run::{TakenJob, run_plan};
 use crate::write::write_list;
 use choice::row_of;
 use display::{Display, accepted, refusal};
@@ -15,18 +15,16 @@ use rules::{Answer, MOST_DRAWS, Plan, Refusal, Unrolled};
 // The run of a plan from the start of the job.
 fn run_from_start(
     plan: Plan,
-    job: &[u8],
-    shape: Unrolled,
-    row: &[u16],
+    job: TakenJob<'_>,
     orders: u32,
     loads: &mut [u64],
 ) -> Result<Display, Refusal>
-    requires { Prepared (plan_number plan) (call job.now shape.rounds) shape row.now orders loads.old }
-    ensures { Ended (plan_number plan) (call job.now shape.rounds) result loads.new }
+    requires { Prepared (plan_number plan) (call job.bytes.now job.shape.rounds) orders loads.old }
+    ensures { Ended (plan_number plan) (call job.entry.bytes.now job.entry.shape.rounds) result loads.new }
 {
-    let mut held = sheet::starting_slots(job, shape.slots);
-    let slots = shape.slots as usize;
-    run_plan(plan, job, shape, row, &mut held[..slots], orders, loads)
+    let slots = job.shape.slots;
+    let mut held = sheet::starting_slots(job.bytes, slots);
+    run_plan(plan, job, &mut held[..slots as usize], orders, loads)
 }
 
 // The run of a plan of a job that was taken. Conservative works off the loads of opt, so opt runs first.
@@ -35,12 +33,16 @@ fn run_of(plan: Plan, job: &[u8], shape: Unrolled, loads: &mut [u64]) -> Result<
     ensures { Ended (plan_number plan) (call job.now shape.rounds) result loads.new }
 {
     let all = row_of(job, shape);
-    let row = &all[..shape.draws as usize];
-    let Plan::Conservative = plan else {
-        return run_from_start(plan, job, shape, row, 0, loads);
+    let job = TakenJob {
+        bytes: job,
+        shape,
+        row: &all[..shape.draws as usize],
     };
-    let opt = run_from_start(Plan::Opt, job, shape, row, 0, loads)?;
-    run_from_start(plan, job, shape, row, opt.loads, loads)
+    let Plan::Conservative = plan else {
+        return run_from_start(plan, job, 0, loads);
+    };
+    let opt = run_from_start(Plan::Opt, job, 0, loads)?;
+    run_from_start(plan, job, opt.loads, loads)
 }
 
 // 6. No plan has this number.

@@ -1,5 +1,5 @@
 -- The tests are walked in the order of the definition, whatever that order is. A run that is over is written as its loads are noted.
-use Rattle.std.proofs.Common.{ℕ, ◌≡◌, ◌∙◌, refl, sym, ap, Ok, arith}
+use Rattle.std.proofs.Common.{ℕ, ◌≡◌, ◌∙◌, sym, ap, Ok, arith}
 use lib.ListN.{length-replicate}
 use Rattle.std.proofs.lemmas.Result.{err_from_is_err_and}
 use Rattle.rules.specs.declared.refusal.Refusal.TheVariants.{PlanNumber, ShortRoom}
@@ -33,13 +33,6 @@ returns-then-short_room c =
     let known : plan_number c.in_ok-plan.plan ≡ c.args.plan = c.in_ok-plan.ensures in
     let (comes, writes) = refuses _ c.args.plan c.args.room.now ShortRoom (search walk depth 20 fits 4000) in
     record { comes_to = comes; writes = writes }
-
-pub run_of-requires : goal.run_of-requires
-run_of-requires c =
-    let has =
-    roomy c.args.job.now c.args.rounds c.read_call.result c.in_ok-shape.shape c.args.room.now c.short_room.result c.read_call.ensures
-    c.in_ok-shape.was c.short_room.ensures c.if-short_room.false in
-    record { taken = has.taken; places = length-replicate {A = ℕ} 4096 0 }
 
 pub overflow_cast-d : goal.overflow_cast-d
 overflow_cast-d c =

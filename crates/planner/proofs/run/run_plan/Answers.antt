@@ -17,31 +17,29 @@ use Rattle.planner.proofs.run.run_plan.Goals as goal
 pub loop-d-init : goal.loop-d-init
 loop-d-init c =
     let a = c.args in
-    let asked = call a.job.now a.shape.rounds in
+    let asked = call a.job.bytes.now a.job.shape.rounds in
     let ready = c.requires.prepared in
     record {
       same_size = refl;
       history = at_first (job_of asked);
       walking = walking_first asked (rule_of (job_of asked) (plan_number a.plan)) a.held.now c.start-d.result c.requires.starts c.start-d.ensures;
-      row = rw c.start-d.ensures (row_start (plan_number a.plan) asked a.orders a.loads.now ready.ordered ready.has_places.places);
+      row = rw c.start-d.ensures (row_start (plan_number a.plan) asked a.orders a.loads.now ready.ordered ready.places);
     }
 
 pub plan_tick-requires : goal.plan_tick-requires
 plan_tick-requires c =
     let a = c.args in
-    let asked = call a.job.now a.shape.rounds in
+    let asked = call a.job.bytes.now a.job.shape.rounds in
     let job = job_of asked in
     let ready = c.requires.prepared in
-    let within = limits asked a.shape ready.has_places.taken in
+    let within = limits asked a.job.shape a.job.taken in
     let most = within.few_draws in
-    let many : length job.draws ≡ a.shape.draws = within.many_draws in
+    let many : length job.draws ≡ a.job.shape.draws = within.many_draws in
     let early : c.loop-d.d.tick < last_tick = c.if-d-ge-LAST_TICK.false in
-    let remains : c.loop-d.d.next < a.shape.draws = c.loop-d-test.true in
+    let remains : c.loop-d.d.next < a.job.shape.draws = c.loop-d-test.true in
     let roomy =
     going_room job (rule_of job (plan_number a.plan)) last_tick _ _ _ c.loop-d.invariant.walking.along early (omega arith) (omega arith) in
     record {
-      limits = within;
-      draws = ready.draws;
       size =
           c.loop-d.invariant.same_size ∙ ap length c.requires.starts ∙ length_symbols (shape_of asked.job).slots _
           ∙ ap (λ (s : Unrolled). s.slots) (sym within.shaped);
@@ -53,13 +51,13 @@ plan_tick-requires c =
 pub loop-d-preserved : goal.loop-d-preserved
 loop-d-preserved c =
     let a = c.args in
-    let asked = call a.job.now a.shape.rounds in
+    let asked = call a.job.bytes.now a.job.shape.rounds in
     let job = job_of asked in
     let rule = rule_of job (plan_number a.plan) in
     let l = c.loop-d in
     let kept = l.invariant in
     let h = kept.history in
-    let many : length job.draws ≡ a.shape.draws = (limits asked a.shape c.requires.prepared.has_places.taken).many_draws in
+    let many : length job.draws ≡ a.job.shape.draws = (limits asked a.job.shape a.job.taken).many_draws in
     let within : l.d.next < length job.draws = omega (arith, c.loop-d-test.true) in
     let early : l.d.tick < last_tick = c.if-d-ge-LAST_TICK.false in
     let held' = c.plan_tick.new.held in
@@ -81,20 +79,20 @@ loop-d-preserved c =
 pub returns-then-d-ge-LAST_TICK : goal.returns-then-d-ge-LAST_TICK
 returns-then-d-ge-LAST_TICK c =
     let a = c.args in
-    let asked = call a.job.now a.shape.rounds in
+    let asked = call a.job.bytes.now a.job.shape.rounds in
     let l = c.loop-d in
-    let many = (limits asked a.shape c.requires.prepared.has_places.taken).many_draws in
+    let many = (limits asked a.job.shape a.job.taken).many_draws in
     ends_late (job_of asked) (rule_of (job_of asked) (plan_number a.plan)) l.held l.d l.invariant.history l.invariant.walking (rw many c.loop-d-test.true)
     c.if-d-ge-LAST_TICK.true
 
 pub returns-in_default : goal.returns-in_default
 returns-in_default c =
     let a = c.args in
-    let asked = call a.job.now a.shape.rounds in
+    let asked = call a.job.bytes.now a.job.shape.rounds in
     let l = c.loop-d in
     let held' = c.plan_tick.new.held in
     let e = c.in_default.field-0 in
-    let many = (limits asked a.shape c.requires.prepared.has_places.taken).many_draws in
+    let many = (limits asked a.job.shape a.job.taken).many_draws in
     ends_refused (job_of asked) (rule_of (job_of asked) (plan_number a.plan)) l.held l.d l.invariant.history l.invariant.walking (rw many c.loop-d-test.true)
     c.if-d-ge-LAST_TICK.false held' e
     (by_plan (plan_number a.plan) asked a.orders l.loads l.held held' l.d _ (Err e) l.invariant.row c.order_at-order.ensures c.in_default.ensures)
@@ -102,10 +100,10 @@ returns-in_default c =
 pub returns : goal.returns
 returns c =
     let a = c.args in
-    let asked = call a.job.now a.shape.rounds in
-    let taken = c.requires.prepared.has_places.taken in
+    let asked = call a.job.bytes.now a.job.shape.rounds in
+    let taken = a.job.taken in
     let l = c.loop-d in
     let kept = l.invariant in
-    let many = (limits asked a.shape taken).many_draws in
-    over_so asked a.shape taken (plan_number a.plan) l.held kept.history l.d
+    let many = (limits asked a.job.shape taken).many_draws in
+    over_so asked a.job.shape taken (plan_number a.plan) l.held kept.history l.d
     (ends_over (job_of asked) (rule_of (job_of asked) (plan_number a.plan)) l.held l.d kept.history kept.walking (rw many c.loop-d-test.false)) l.loads kept.row.noted

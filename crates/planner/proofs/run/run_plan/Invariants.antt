@@ -7,7 +7,7 @@ use Rattle.planner.proofs.Walks.{MidRun}
 use Rattle.planner.proofs.run.run_plan.Given as goal
 
 abbrev pub invariant-loop-d : goal.invariant-loop-d
-invariant-loop-d l = MidRun (plan_number l.plan) (call l.job l.shape.rounds) (length l.initial.held) l.orders l.held l.loads l.d
+invariant-loop-d l = MidRun (plan_number l.plan) (call l.job.bytes.now l.job.shape.rounds) (length l.initial.held) l.orders l.held l.loads l.d
 
 abbrev pub decreases-loop-d : goal.decreases-loop-d
 decreases-loop-d l = last_tick - l.d.tick
