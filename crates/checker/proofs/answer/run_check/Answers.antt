@@ -17,7 +17,7 @@ pub returns-in_err-list : goal.returns-in_err-list
 returns-in_err-list c =
     let r = c.from_residual-in_err-list in
     let p = err_from_is_err_and r.result r.ensures.1 in
-    let (none, form) = c.in_err-list.ensures in
+    let (none, form) = c.in_err-list.ensures.refusal in
     rw (p.1, p.2, form)
     (refuses _ _ _ _ ListForm (past_call _ c.read_call.result _ c.read_call.ensures c.in_ok-shape.was (at_list c.args.list.now _ refl none)))
 
@@ -25,7 +25,7 @@ pub returns-then-short_room : goal.returns-then-short_room
 returns-then-short_room c =
     let l = c.in_ok-list in
     room_refused (call c.args.job.now c.args.rounds) c.args.list.now _ _ _ l.list.count l.list.bytes.now (sym c.read_call.ensures ∙ c.in_ok-shape.was)
-    l.ensures.0 (ap (λ (b : _). b.now) l.ensures.1) c.short_room.result c.short_room.ensures c.if-short_room.true
+    l.ensures.list.0 (ap (λ (b : _). b.now) l.ensures.list.1) c.short_room.result c.short_room.ensures c.if-short_room.true
 
 pub returns-in_err-check_ticks : goal.returns-in_err-check_ticks
 returns-in_err-check_ticks c =
@@ -34,7 +34,7 @@ returns-in_err-check_ticks c =
     let p = err_from_is_err_and r.result r.ensures.1 in
     rw (p.1, p.2)
     (ticks_refused (call c.args.job.now c.args.rounds) c.args.list.now _ _ _ l.list.count l.list.bytes.now (sym c.read_call.ensures ∙ c.in_ok-shape.was)
-    l.ensures.0 (ap (λ (b : _). b.now) l.ensures.1) c.short_room.result c.short_room.ensures c.if-short_room.false _ c.in_err-check_ticks.ensures)
+    l.ensures.list.0 (ap (λ (b : _). b.now) l.ensures.list.1) c.short_room.result c.short_room.ensures c.if-short_room.false _ c.in_err-check_ticks.ensures)
 
 pub hand_out-requires : goal.hand_out-requires
 hand_out-requires c =
@@ -45,5 +45,5 @@ pub returns : goal.returns
 returns c =
     let l = c.in_ok-list in
     hands_out (call c.args.job.now c.args.rounds) c.args.list.now _ _ _ l.list.count l.list.bytes.now (sym c.read_call.ensures ∙ c.in_ok-shape.was)
-    l.ensures.0 (ap (λ (b : _). b.now) l.ensures.1) c.short_room.result c.short_room.ensures c.if-short_room.false c.in_ok-check_ticks.field-0
+    l.ensures.list.0 (ap (λ (b : _). b.now) l.ensures.list.1) c.short_room.result c.short_room.ensures c.if-short_room.false c.in_ok-check_ticks.field-0
     c.in_ok-check_ticks.ensures _ _ _ c.hand_out.ensures

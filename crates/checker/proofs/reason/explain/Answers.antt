@@ -19,7 +19,7 @@ pub returns-in_err-list : goal.returns-in_err-list
 returns-in_err-list c =
     let r = c.from_residual-in_err-list in
     let p = err_from_is_err_and r.result r.ensures.1 in
-    let (none, form) = c.in_err-list.ensures in
+    let (none, form) = c.in_err-list.ensures.refusal in
     rw (p.1, p.2, form)
     (why_shut _ _ c.args.draw ListForm
     (gives _ _ (past_call _ c.read_call.result _ c.read_call.ensures c.in_ok-shape.was (at_list c.args.list.now _ refl none))))
@@ -31,8 +31,8 @@ returns-in_err-check_ticks c =
     let r = c.from_residual-in_err-check_ticks in
     let p = err_from_is_err_and r.result r.ensures.1 in
     rw (p.1, p.2)
-    (why_order (call a.job.now a.rounds) a.list.now a.draw _ l.list.count l.list.bytes.now (sym c.read_call.ensures ∙ c.in_ok-shape.was) l.ensures.0
-    (ap (λ (b : _). b.now) l.ensures.1) _ c.in_err-check_ticks.ensures)
+    (why_order (call a.job.now a.rounds) a.list.now a.draw _ l.list.count l.list.bytes.now (sym c.read_call.ensures ∙ c.in_ok-shape.was) l.ensures.list.0
+    (ap (λ (b : _). b.now) l.ensures.list.1) _ c.in_err-check_ticks.ensures)
 
 pub account_of-requires : goal.account_of-requires
 account_of-requires c = taken_limits (call c.args.job.now c.args.rounds) _ (sym c.read_call.ensures ∙ c.in_ok-shape.was)
@@ -44,19 +44,19 @@ returns-in_err-account c =
     let r = c.from_residual-in_err-account in
     let p = err_from_is_err_and r.result r.ensures.1 in
     rw (p.1, p.2)
-    (why_refused (call a.job.now a.rounds) a.list.now a.draw _ l.list.count l.list.bytes.now (sym c.read_call.ensures ∙ c.in_ok-shape.was) l.ensures.0
-    (ap (λ (b : _). b.now) l.ensures.1) _ c.in_ok-check_ticks.ensures _ c.in_err-account.ensures)
+    (why_refused (call a.job.now a.rounds) a.list.now a.draw _ l.list.count l.list.bytes.now (sym c.read_call.ensures ∙ c.in_ok-shape.was) l.ensures.list.0
+    (ap (λ (b : _). b.now) l.ensures.list.1) _ c.in_ok-check_ticks.ensures _ c.in_err-account.ensures)
 
 pub returns-then-shape-draw : goal.returns-then-shape-draw
 returns-then-shape-draw c =
     let a = c.args in
     let l = c.in_ok-list in
-    why_no_draw (call a.job.now a.rounds) a.list.now a.draw _ l.list.count l.list.bytes.now (sym c.read_call.ensures ∙ c.in_ok-shape.was) l.ensures.0
-    (ap (λ (b : _). b.now) l.ensures.1) _ c.in_ok-check_ticks.ensures c.in_ok-account.account c.in_ok-account.ensures c.if-shape-draw.true
+    why_no_draw (call a.job.now a.rounds) a.list.now a.draw _ l.list.count l.list.bytes.now (sym c.read_call.ensures ∙ c.in_ok-shape.was) l.ensures.list.0
+    (ap (λ (b : _). b.now) l.ensures.list.1) _ c.in_ok-check_ticks.ensures c.in_ok-account.account c.in_ok-account.ensures c.if-shape-draw.true
 
 pub returns : goal.returns
 returns c =
     let a = c.args in
     let l = c.in_ok-list in
-    why_told (call a.job.now a.rounds) a.list.now a.draw _ l.list.count l.list.bytes.now (sym c.read_call.ensures ∙ c.in_ok-shape.was) l.ensures.0
-    (ap (λ (b : _). b.now) l.ensures.1) _ c.in_ok-check_ticks.ensures c.in_ok-account.account c.in_ok-account.ensures c.if-shape-draw.false
+    why_told (call a.job.now a.rounds) a.list.now a.draw _ l.list.count l.list.bytes.now (sym c.read_call.ensures ∙ c.in_ok-shape.was) l.ensures.list.0
+    (ap (λ (b : _). b.now) l.ensures.list.1) _ c.in_ok-check_ticks.ensures c.in_ok-account.account c.in_ok-account.ensures c.if-shape-draw.false
