@@ -1,6 +1,6 @@
 // Big-endian numbers at a place of a slice, read and written. A byte past the end reads as 0, and nothing is written where there is
 // too little room, so no place is refused.
-ghost use Rattle.std.specs.Prelude.{◌≡◌, ◌++◌, ◌+◌, ◌*◌, ◌<◌, ◌≤◌, length, get_or, drop};
+ghost use Rattle.std.specs.Prelude.{◌≡◌, get_or};
 ghost use Rattle.rules.specs.Basics.{number16, number32, bytes32};
 ghost use Rattle.rules.specs.LoadList.{put};
 
