@@ -20,7 +20,9 @@ struct Turn {
     later: Display,
 }
 
-// The turn from this display on, or none where every draw is made and no event is left.
+// The turn from this display on, or none where every draw is made and no event is left. It stands in line in both runs, so that the display of a
+// turn is not copied through memory.
+#[inline(always)]
 fn take_turn(
     job: &[u8],
     list: LoadList<'_>,

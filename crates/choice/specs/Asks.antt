@@ -7,18 +7,9 @@ use Rattle.rules.specs.Display.{State, awaited}
 use Rattle.rules.specs.Plans.{furthest, on_demand, aggressive, opt, lru, earliest_at}
 use Rattle.display.specs.declared.state.Display.{Display}
 use Rattle.display.specs.View.{History, view}
-use Rattle.rules.specs.declared.Plan.{Plan}
-use Rattle.rules.specs.declared.Plan.TheVariants.{Aggressive, Conservative, Opt, Lru}
 use Rattle.rules.specs.Basics.{stands}
 use Rattle.choice.specs.declared.ask.Order.{Order}
 use Rattle.choice.specs.Ranks.{WithinLimits}
-
--- The numbers of the plans.
-abbrev pub plan_number : Plan → ℕ
-plan_number Aggressive = 0
-plan_number Conservative = 1
-plan_number Opt = 2
-plan_number Lru = 3
 
 -- What conservative asks for, told from the next load of opt.
 abbrev pub order_asks : Option Order → State → Option Load

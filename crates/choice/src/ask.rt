@@ -4,7 +4,8 @@ ghost use Rattle.rules.specs.Job.{Job};
 ghost use Rattle.rules.specs.Display.{State};
 ghost use Rattle.rules.specs.Plans.{aggressive};
 ghost use Rattle.choice.specs.Ranks.{WithinLimits};
-ghost use Rattle.choice.specs.Asks.{CanAsk, MayAsk, Quiet, Seen, plan_number, asks_by, OnDemandBy, Earliest, Asked};
+ghost use Rattle.rules.specs.Plans.{plan_number};
+ghost use Rattle.choice.specs.Asks.{CanAsk, MayAsk, Quiet, Seen, asks_by, OnDemandBy, Earliest, Asked};
 
 use crate::ranks::{first_greatest, free_first, oldest, ranks_of};
 use crate::search::{missing, next_draw, served};

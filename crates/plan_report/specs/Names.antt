@@ -1,7 +1,7 @@
 -- The plans by their names. (Document 01, "The four plans")
 use Rattle.std.specs.Prelude.{ℕ, suc, cond, List, [], ◌∷◌, slice_index_or, Option, Some, None, bytes_eq}
 use Rattle.rules.specs.declared.Plan.{Plan}
-use Rattle.rules.specs.declared.Plan.TheVariants.{Aggressive, Conservative, Opt, Lru}
+use Rattle.rules.specs.Plans.{plan_number}
 
 -- The first place of a name among some names, or how many they are.
 unfoldable pub name_at : List ℕ → List (List ℕ) → ℕ
@@ -17,13 +17,7 @@ names =
     ∷ (108 ∷ 114 ∷ 117 ∷ [])
     ∷ []
 
--- The number and the name of each plan.
-abbrev pub plan_number : Plan → ℕ
-plan_number Aggressive = 0
-plan_number Conservative = 1
-plan_number Opt = 2
-plan_number Lru = 3
-
+-- The name of each plan.
 abbrev pub plan_name : Plan → List ℕ
 plan_name plan = slice_index_or names (plan_number plan) []
 

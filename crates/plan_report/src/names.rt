@@ -1,6 +1,7 @@
 // The plans by their names and their numbers: what an argument of the program names, what a summary prints, what a call is asked with.
 ghost use Rattle.std.specs.Prelude.{◌≡◌};
-ghost use Rattle.plan_report.specs.Names.{plan_number, plan_name, number_or_none, plan_named};
+ghost use Rattle.rules.specs.Plans.{plan_number};
+ghost use Rattle.plan_report.specs.Names.{plan_name, number_or_none, plan_named};
 
 use rules::Plan;
 use std::rt::Env;

@@ -17,7 +17,7 @@ use Rattle.rules.specs.Display.{State, Run, Loaded, going, refused, finished}
 use Rattle.rules.specs.declared.Plan.{Plan}
 use Rattle.rules.specs.declared.Plan.TheVariants.{Aggressive, Conservative, Opt, Lru}
 use Rattle.rules.specs.Plans.{run_plan, begun_in, rule_of, last_plan}
-use Rattle.choice.specs.Asks.{plan_number}
+use Rattle.rules.specs.Plans.{plan_number}
 use Rattle.rules.specs.Refusing.{refusal_number, refusal_detail}
 use Rattle.rules.specs.Refusals.{read_call, short_plan, in_time, plan_tests, planned, event_of, written_by, lent}
 use Rattle.laws.proofs.Verdicts.{Gives, gives, stop, step}

@@ -3,7 +3,7 @@ use Rattle.std.specs.Prelude.{ℕ, ◌+◌, ◌*◌, ◌-◌, ◌≤◌, ◌<◌
 use Rattle.rules.specs.declared.refusal.Refusal.{Refusal}
 use Rattle.rules.specs.declared.refusal.Refusal.TheVariants.{PlanNumber}
 use Rattle.rules.specs.declared.Plan.{Plan}
-use Rattle.choice.specs.Asks.{plan_number}
+use Rattle.rules.specs.Plans.{plan_number}
 use Rattle.rules.specs.Refusing.{refusal_number, refusal_detail}
 use Rattle.rules.specs.declared.Unrolled.{Unrolled}
 use Rattle.rules.specs.Job.{Call, starting_symbols, draws_of, job_of, most_draws}

@@ -3,7 +3,7 @@ ghost use Rattle.std.specs.Prelude.{◌≡◌, ◌+◌, ◌*◌, length, ltb};
 ghost use Rattle.rules.specs.Job.{call, most_draws};
 ghost use Rattle.rules.specs.LoadList.{head_size, event_size};
 ghost use Rattle.rules.specs.Refusals.{planned, answer_of, written_by, lent};
-ghost use Rattle.choice.specs.Asks.{plan_number};
+ghost use Rattle.rules.specs.Plans.{plan_number};
 ghost use Rattle.planner.specs.Runs.{HasPlaces, Prepared, Ended, PlanOf, ComesTo};
 
 use crate::run::{TakenJob, run_plan};

@@ -6,7 +6,8 @@ ghost use Rattle.rules.specs.LoadList.{last_tick};
 ghost use Rattle.rules.specs.Plans.{asking};
 ghost use Rattle.display.specs.Tick.{Ticks};
 ghost use Rattle.display.specs.Still.{MayRest, Rested};
-ghost use Rattle.choice.specs.Asks.{plan_number, asks_by};
+ghost use Rattle.rules.specs.Plans.{plan_number};
+ghost use Rattle.choice.specs.Asks.{asks_by};
 ghost use Rattle.planner.specs.Runs.{BeforeTick, LoadUnderWay, FromStart, Ended};
 
 use crate::loads::{note, order_at};

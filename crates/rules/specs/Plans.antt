@@ -3,6 +3,8 @@
 use Rattle.std.specs.Prelude.{ℕ, zero, suc, ◌+◌, max, true, cond, not, ◌&&◌, List, [], ◌∷◌, ◌++◌, reverse, length, get_or, take, drop, eqb, ltb, leb}
 use Rattle.std.specs.Prelude.{Option, Some, None}
 use Rattle.rules.specs.declared.Load.{Load}
+use Rattle.rules.specs.declared.Plan.{Plan}
+use Rattle.rules.specs.declared.Plan.TheVariants.{Aggressive, Conservative, Opt, Lru}
 use Rattle.rules.specs.Basics.{place, stands}
 use Rattle.rules.specs.Job.{Job, free}
 use Rattle.rules.specs.LoadList.{last_tick}
@@ -99,6 +101,12 @@ abbrev pub conservative : List Loaded → Rule
 conservative loads = asking (λ s. earliest (drop s.loads loads) s)
 
 -- The plans by their numbers.
+abbrev pub plan_number : Plan → ℕ
+plan_number Aggressive = 0
+plan_number Conservative = 1
+plan_number Opt = 2
+plan_number Lru = 3
+
 abbrev pub last_plan : ℕ
 last_plan = 3
 

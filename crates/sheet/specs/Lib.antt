@@ -1,3 +1,4 @@
+pub mod Next
 pub mod Put
 pub mod Row
 pub mod Size

@@ -1,8 +1,10 @@
 // A load list that was read: its bytes, as many as its events need, and the number of its events. Who has one need not test its size again.
-ghost use Rattle.std.specs.Prelude.{◌≡◌, ◌+◌, ◌<◌, ◌∷◌, drop, MatchResult, Some, None};
-ghost use Rattle.rules.specs.LoadList.{read_event, event_at, events_in, head_size};
+ghost use Rattle.std.specs.Prelude.{◌≡◌, ◌<◌, drop, IfOk, Some, None};
+ghost use Rattle.rules.specs.LoadList.{read_event, event_at};
 ghost use Rattle.rules.specs.Refusals.{read_list};
 ghost use Rattle.rules.specs.declared.refusal.Refusal.TheVariants.{ListForm};
+ghost use Rattle.std.specs.Result.{IfErr};
+ghost use Rattle.sheet.specs.Next.{NextEvent};
 ghost use Rattle.sheet.specs.Size.{Sized};
 ghost use Rattle.sheet.specs.Ticks.{in_order};
 
@@ -20,7 +22,8 @@ pub struct LoadList<'a> {
 impl<'a> LoadList<'a> {
     // The list in these bytes, or that they are none.
     pub fn read(bytes: &'a [u8]) -> Result<LoadList<'a>, Refusal>
-        ensures { MatchResult result (λ l. (read_list bytes.now ≡ Some l.count) × (l.bytes ≡ bytes.entry)) (λ r. (read_list bytes.now ≡ None) × (r ≡ ListForm)) }
+        ensures list { IfOk result (λ l. (read_list bytes.now ≡ Some l.count) × (l.bytes ≡ bytes.entry)) }
+        ensures refusal { IfErr result (λ r. (read_list bytes.now ≡ None) × (r ≡ ListForm)) }
     {
         let Some(count) = read_list(bytes) else {
             return Err(Refusal::ListForm);
@@ -32,7 +35,7 @@ impl<'a> LoadList<'a> {
     pub fn event(self, index: u16) -> Event
         requires { index < self.count }
         ensures read { Some result ≡ read_event (drop (event_at index) self.entry.bytes.now) }
-        ensures next { drop index (events_in self.entry.count (drop head_size self.entry.bytes.now)) ≡ result ∷ drop (index + 1) (events_in self.entry.count (drop head_size self.entry.bytes.now)) }
+        ensures next { NextEvent self.entry.count self.entry.bytes.now index result }
     {
         let Some(event) = event_of(self.bytes, index as u32) else {
             unreachable!()

@@ -195,7 +195,8 @@ module _ (text row row' : List ℕ) (r : Result ℕ Refusal) (noted : NotedLines
       by_reading (bad_line c) e = let z : ◌≡◌ {A = ℕ} 0 1 = cc in absurd (omega arith)
       by_reading (lines l) e = (l, refl, cc)
 
-pub reader_refuses : (text : List ℕ) (d : ℕ) (answer : Result ℕ Refusal) (room : List ℕ) → lines_of text ≡ bad_line d → told answer ≡ written_of (refused_with 16 d)
+pub reader_refuses : (text : List ℕ) (d : ℕ) (answer : Result ℕ Refusal) (room : List ℕ) → lines_of text ≡ bad_line d
+    → told answer ≡ written_of (refused_with 16 d)
     → Promised (read_text text (length room)) (told answer) room room
 unfolding first_of read_tests
 reader_refuses text d answer room is answers = rw is (answers, refl)

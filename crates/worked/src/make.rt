@@ -48,9 +48,10 @@ pub fn put_list<'a>(room: &'a mut [u8; 21], events: &[Event]) -> &'a [u8]
     requires { length events.now ≤ 2 }
 {
     let count = events.len() as u16;
-    sheet::put_head(room, count);
+    // The room is that of two events, so both fit.
+    let _ = sheet::put_head(room, count);
     for (index, event) in (0..count).zip(events) {
-        sheet::put_event(room, index, event.tick, event.slot, event.symbol);
+        let _ = sheet::put_event(room, index, *event);
     }
     &room[..7 + 7 * events.len()]
 }

@@ -6,7 +6,7 @@ use Rattle.rules.specs.declared.refusal.Refusal.TheVariants.{PlanNumber, ShortRo
 use Rattle.rules.specs.Job.{call}
 use Rattle.laws.proofs.Verdicts.{end, stop, step}
 use Rattle.laws.proofs.Jobs.{past_call}
-use Rattle.choice.specs.Asks.{plan_number}
+use Rattle.rules.specs.Plans.{plan_number}
 use Rattle.planner.specs.Runs.{run_of, Over}
 use Rattle.planner.proofs.Planning.{room_test_lem, no_plan, a_plan, roomy, refuses, call_refuses, past_tests, few_loads, fitting, never_refused, over_comes, over_writes}
 use Rattle.planner.proofs.answer.carry_out.Goals as goal

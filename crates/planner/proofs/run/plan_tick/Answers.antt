@@ -7,7 +7,8 @@ use Rattle.display.proofs.Keeps.{land_keeps, room_landed}
 use Rattle.display.proofs.Landed.{landed_awaits}
 use Rattle.display.proofs.Steps.{tick_so}
 use Rattle.display.proofs.Views.{lands_so}
-use Rattle.choice.specs.Asks.{plan_number, asks_by}
+use Rattle.rules.specs.Plans.{plan_number}
+use Rattle.choice.specs.Asks.{asks_by}
 use Rattle.planner.proofs.Walks.{limits_of, asked_landed}
 use Rattle.planner.proofs.run.plan_tick.Goals as goal
 

@@ -8,7 +8,7 @@ use Rattle.laws.proofs.Jobs.{limits}
 use Rattle.laws.proofs.Symbols.{length_symbols}
 use Rattle.display.specs.View.{at_first, onward}
 use Rattle.display.proofs.Going.{going_room}
-use Rattle.choice.specs.Asks.{plan_number}
+use Rattle.rules.specs.Plans.{plan_number}
 use Rattle.planner.proofs.LoadRow.{row_start, row_on}
 use Rattle.planner.proofs.Planning.{over_so}
 use Rattle.planner.proofs.Walks.{walking_first, walking_on, calm, by_plan, ends_over, ends_late, ends_refused}

@@ -2,7 +2,7 @@
 use Rattle.std.proofs.Common.{◌-◌, length}
 use Rattle.rules.specs.Job.{call}
 use Rattle.rules.specs.LoadList.{last_tick}
-use Rattle.choice.specs.Asks.{plan_number}
+use Rattle.rules.specs.Plans.{plan_number}
 use Rattle.planner.proofs.Walks.{MidRun}
 use Rattle.planner.proofs.run.run_plan.Given as goal
 

@@ -1,5 +1,5 @@
 -- Tick, slot and symbol are read one after the other, each from the place after the one before.
-use Rattle.std.proofs.Common.{◌≤◌, arith}
+use Rattle.std.proofs.Common.{arith}
 use Rattle.text.proofs.Lines.{no_tick, tick_read, no_slot, slot_over, slot_read, no_symbol, symbol_over, a_line, too_great, narrowed}
 use Rattle.text.proofs.line.line_at.Goals as goal
 

@@ -6,7 +6,8 @@ use Rattle.rules.specs.LoadList.{head_size, events_in}
 use Rattle.rules.specs.Refusals.{first_bad_tick}
 use Rattle.laws.proofs.Events.{length-events_in, bad_tick_over, bad_tick_low, bad_tick_further, bad_tick_none}
 use Rattle.sheet.proofs.load_list.LoadList.check_ticks.Goals as goal
-use Rattle.sheet.proofs.load_list.LoadList.check_ticks.Goals.{then-tick-gt-LAST_TICK-via-then-tick-gt-LAST_TICK, then-tick-gt-LAST_TICK-via-else-tick-gt-LAST_TICK+then-tick-least}
+use Rattle.sheet.proofs.load_list.LoadList.check_ticks.Goals.{then-tick-gt-LAST_TICK-via-then-tick-gt-LAST_TICK}
+use Rattle.sheet.proofs.load_list.LoadList.check_ticks.Goals.{then-tick-gt-LAST_TICK-via-else-tick-gt-LAST_TICK+then-tick-least}
 
 pub returns-then-tick-gt-LAST_TICK : goal.returns-then-tick-gt-LAST_TICK
 returns-then-tick-gt-LAST_TICK c =
