@@ -1,7 +1,5 @@
 -- A draw is missing and a slot is chosen: each way out is a test of the definition.
-use Rattle.std.proofs.Common.{◌≡◌, length, sym, ◌∙◌, arith}
-use Rattle.rules.specs.Plans.{missing}
-use Rattle.choice.proofs.Asked.{aggressive_none, aggressive_soon, aggressive_far}
+use Rattle.choice.proofs.Asked.{aggressive_soon, aggressive_far}
 use Rattle.choice.proofs.ask.ask_aggressive.Goals as goal
 
 pub returns-then-ranks-slot : goal.returns-then-ranks-slot
