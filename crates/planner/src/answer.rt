@@ -1,6 +1,6 @@
 // A plan of a job: its refusals in their order, its run, and its list in the lent room.
 ghost use Rattle.std.specs.Prelude.{◌≡◌, ◌+◌, ◌*◌, length, ltb};
-ghost use Rattle.rules.specs.Job.{call};
+ghost use Rattle.rules.specs.Job.{call, most_draws};
 ghost use Rattle.rules.specs.LoadList.{head_size, event_size};
 ghost use Rattle.rules.specs.Refusals.{planned, answer_of, written_by, lent};
 ghost use Rattle.rules.specs.Plans.{plan_number};
@@ -28,21 +28,30 @@ fn run_from_start(
 }
 
 // The run of a plan of a job that was taken. Conservative works off the loads of opt, so opt runs first.
-fn run_of(plan: Plan, job: &[u8], shape: Unrolled, loads: &mut [u64]) -> Result<Display, Refusal>
-    requires { HasPlaces (call job.now shape.rounds) shape loads.old }
-    ensures { Ended (plan_number plan) (call job.now shape.rounds) result loads.new }
+fn run_taken(plan: Plan, job: TakenJob<'_>, loads: &mut [u64]) -> Result<Display, Refusal>
+    requires { length loads.old ≡ most_draws }
+    ensures { Ended (plan_number plan) (call job.entry.bytes.now job.entry.shape.rounds) result loads.new }
 {
-    let all = row_of(job, shape);
-    let job = TakenJob {
-        bytes: job,
-        shape,
-        row: &all[..shape.draws as usize],
-    };
     let Plan::Conservative = plan else {
         return run_from_start(plan, job, 0, loads);
     };
     let opt = run_from_start(Plan::Opt, job, 0, loads)?;
     run_from_start(plan, job, opt.loads, loads)
+}
+
+// The same, with the draws of the job copied into a row.
+fn run_of(plan: Plan, job: &[u8], shape: Unrolled, loads: &mut [u64]) -> Result<Display, Refusal>
+    requires { HasPlaces (call job.now shape.rounds) shape loads.old }
+    ensures { Ended (plan_number plan) (call job.now shape.rounds) result loads.new }
+{
+    let all = row_of(job, shape);
+    let row = &all[..shape.draws as usize];
+    let taken = TakenJob {
+        bytes: job,
+        shape,
+        row,
+    };
+    run_taken(plan, taken, loads)
 }
 
 // 6. No plan has this number.
