@@ -2,7 +2,7 @@
 ghost use Rattle.std.specs.Prelude.{◌≡◌};
 ghost use Rattle.checker.specs.Follow.{answer_in, draws_made, ended_at, Ended};
 
-use display::{Display, accepted, refusal};
+use display::{Display, accepted, refused};
 use rules::{Answer, Refusal};
 
 // The answer to a check, and the draws that are handed out with it: all of an accepted list, none of a refused one.
@@ -22,7 +22,7 @@ pub fn answered(ended: Result<Display, Refusal>) -> Checked
             draws: d.next,
         },
         Err(reason) => Checked {
-            answer: refusal(reason),
+            answer: refused(reason),
             draws: 0,
         },
     }

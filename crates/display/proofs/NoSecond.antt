@@ -9,6 +9,7 @@ use Rattle.display.specs.View.{History}
 use Rattle.display.specs.contracts
 use Rattle.display.proofs.answer.accepted as accepted
 use Rattle.display.proofs.answer.refusal as refusal
+use Rattle.display.proofs.answer.refused as refused
 use Rattle.display.proofs.search.slot_of as slot_of
 use Rattle.display.proofs.state.start as start
 use Rattle.display.proofs.state.land as land
@@ -26,6 +27,9 @@ nothing = record { rest = []; made = []; begun = [] }
 
 pub refusal_promise : Promise contracts.refusal.ended refusal.Reads.Asked refusal.Reads.Learnt
 refusal_promise = record { any = λ κs given. tt; one = λ κs given answer answer' left left' asked p q. (same p q, refl) }
+
+pub refused_promise : Promise contracts.refused.ended refused.Reads.Asked refused.Reads.Learnt
+refused_promise = record { any = λ κs given. tt; one = λ κs given answer answer' left left' asked p q. (same p q, refl) }
 
 pub start_promise : Promise contracts.start.ended start.Reads.Asked start.Reads.Learnt
 start_promise = record { any = λ κs given. tt; one = λ κs given answer answer' left left' asked p q. (same p q, refl) }

@@ -9,17 +9,24 @@ use crate::state::Display;
 use rules::{Answer, Refusal};
 
 // A refusal has its number and its detail, and no counts.
-pub fn refusal(reason: Refusal) -> Answer
-    ensures { result ≡ answer_of (refused (refusal_number reason) (refusal_detail reason)) }
+pub fn refusal(number: u32, detail: u32) -> Answer
+    ensures { result ≡ answer_of (refused number detail) }
 {
     Answer {
-        number: reason.number(),
-        detail: reason.detail(),
+        number,
+        detail,
         elapsed: 0,
         waits: 0,
         loads: 0,
         longest: 0,
     }
+}
+
+// The same of a refusal as the library knows it, before a host is told its number.
+pub fn refused(reason: Refusal) -> Answer
+    ensures { result ≡ answer_of (refused (refusal_number reason) (refusal_detail reason)) }
+{
+    refusal(reason.number(), reason.detail())
 }
 
 // An accepted run that ended at this display has its counts.

@@ -8,7 +8,7 @@ mod state;
 mod still;
 mod tick;
 
-pub use answer::{accepted, refusal};
+pub use answer::{accepted, refusal, refused};
 pub use search::slot_of;
 pub use state::{Display, begin, land, start};
 pub use still::{before_end, pass_waits, smaller};

@@ -9,7 +9,7 @@ ghost use Rattle.planner.specs.Runs.{HasPlaces, Prepared, Ended, PlanOf, ComesTo
 use crate::run::{TakenJob, run_plan};
 use crate::write::write_list;
 use choice::row_of;
-use display::{Display, accepted, refusal};
+use display::{Display, accepted, refused};
 use rules::{Answer, MOST_DRAWS, Plan, Refusal, Unrolled};
 
 // The run of a plan from the start of the job.
@@ -98,6 +98,6 @@ pub fn plan(job: &[u8], plan: u32, rounds: u32, room: &mut [u8]) -> Answer
 {
     match carry_out(job, plan, rounds, room) {
         Ok(d) => accepted(d),
-        Err(reason) => refusal(reason),
+        Err(reason) => refused(reason),
     }
 }
