@@ -17,14 +17,16 @@ use Rattle.rules.specs.declared.TickRecord.{TickRecord}
 use Rattle.rules.specs.Basics.{stands}
 use Rattle.rules.specs.Job.{Job}
 use Rattle.rules.specs.Order.{Verdict, clear, met, first_of}
-use Rattle.rules.specs.Display.{State, Run, Rule, drawn, going, refused, unless, then, begin, begun_by, beginning, load_tests, happening_of, happened, record_of}
+use Rattle.rules.specs.Display.{State, Run, Rule, drawn, going, refused, unless}
+use Rattle.rules.specs.Display.{then, begin, begun_by, beginning, load_tests, happening_of, happened, record_of}
 use Rattle.rules.specs.Display.{record_at, stuck, tick}
 use Rattle.laws.proofs.Cases.{by_test}
 use Rattle.laws.proofs.Verdicts.{Each, met_by}
 use Rattle.display.specs.declared.state.Display.{Display}
 use Rattle.display.specs.declared.tick.Ticked.{Ticked}
 use Rattle.display.specs.View.{History, view, awaiting, history_begun, history_made, onward, Lands}
-use Rattle.display.specs.Tick.{DrawnOrWaited, Counted, Ticks, Recorded, OnRecord, refusal_of_load, refused_by, asked_refusal, gone_on, held_on, WentOn, leads, Missed}
+use Rattle.display.specs.Tick.{DrawnOrWaited, Counted, Ticks, Recorded, OnRecord, refusal_of_load}
+use Rattle.display.specs.Tick.{refused_by, asked_refusal, gone_on, held_on, WentOn, leads, Missed}
 use Rattle.display.specs.Moves.{nearer, landed_in, begun_with, drawn_or_waited}
 use Rattle.display.proofs.Views.{lands_so, begins_so}
 use Rattle.display.proofs.Ticks.{same_happening, steps_so}

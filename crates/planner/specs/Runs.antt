@@ -1,5 +1,5 @@
 -- What a tick of a plan, the waits after it and a whole run ask for and ensure, and what comes of a plan.
-use Rattle.std.specs.Prelude.{ℕ, ◌+◌, ◌*◌, ◌-◌, ◌≤◌, ◌<◌, ◌≡◌, List, length, Result, Ok, MatchResult}
+use Rattle.std.specs.Prelude.{ℕ, ◌+◌, ◌*◌, ◌-◌, ◌≤◌, ◌<◌, ◌≡◌, List, length, Option, Result, Ok, MatchResult}
 use Rattle.rules.specs.declared.refusal.Refusal.{Refusal}
 use Rattle.rules.specs.declared.refusal.Refusal.TheVariants.{PlanNumber}
 use Rattle.rules.specs.declared.Plan.{Plan}
@@ -9,9 +9,12 @@ use Rattle.rules.specs.declared.Unrolled.{Unrolled}
 use Rattle.rules.specs.Job.{Call, starting_symbols, draws_of, job_of, most_draws}
 use Rattle.rules.specs.LoadList.{head_size, event_size}
 use Rattle.rules.specs.Display.{Run, going, refused}
-use Rattle.rules.specs.Plans.{opt, run_plan, begun_in, rule_of, last_plan}
+use Rattle.rules.specs.Plans.{asking, opt, run_plan, begun_in, rule_of, last_plan}
 use Rattle.rules.specs.Refusals.{read_call, in_time}
-use Rattle.display.specs.Tick.{Room}
+use Rattle.display.specs.Tick.{Room, Ticks}
+use Rattle.display.specs.declared.tick.Ticked.{Ticked}
+use Rattle.choice.specs.declared.ask.Order.{Order}
+use Rattle.choice.specs.Asks.{asks_by}
 use Rattle.display.specs.View.{History, view}
 use Rattle.display.specs.declared.state.Display.{Display}
 use Rattle.planner.specs.Loads.{first_loads}
@@ -22,6 +25,10 @@ pub record BeforeTick (shape : Unrolled) (held : List ℕ) (d : Display) : Type 
   pub room : Room d
   pub few_loads : d.loads < 4294967295
   pub remains : d.next < shape.draws
+
+-- A tick of a plan, conservative by its next order, is a tick of the rules by what the plan asks for.
+abbrev pub TicksBy : ℕ → Call → Option Order → List ℕ → List ℕ → Display → Result Ticked Refusal → Type 0
+TicksBy plan asked order held held' d r = Ticks (job_of asked) (asking (asks_by plan (job_of asked) order)) held held' d r
 
 -- A load is under way in each of the next m ticks.
 pub record LoadUnderWay (d : Display) (m : ℕ) : Type 0 where

@@ -1,14 +1,11 @@
 // One tick of a plan, and the run of a plan to its end.
 ghost use Rattle.std.specs.Prelude.{◌≡◌, Ok};
-ghost use Rattle.rules.specs.Job.{call, draws_of, job_of};
+ghost use Rattle.rules.specs.Job.{call, draws_of};
 ghost use Rattle.rules.specs.Refusals.{read_call};
 ghost use Rattle.rules.specs.LoadList.{last_tick};
-ghost use Rattle.rules.specs.Plans.{asking};
-ghost use Rattle.display.specs.Tick.{Ticks};
 ghost use Rattle.display.specs.Still.{MayRest, Rested};
 ghost use Rattle.rules.specs.Plans.{plan_number};
-ghost use Rattle.choice.specs.Asks.{asks_by};
-ghost use Rattle.planner.specs.Runs.{BeforeTick, LoadUnderWay, FromStart, Ended};
+ghost use Rattle.planner.specs.Runs.{BeforeTick, TicksBy, LoadUnderWay, FromStart, Ended};
 
 use crate::loads::{note, order_at};
 use choice::{Order, asked_by};
@@ -34,7 +31,7 @@ fn plan_tick(
     order: Option<Order>,
 ) -> Result<Ticked, Refusal>
     requires { BeforeTick job.shape held.old d }
-    ensures { Ticks (job_of (call job.entry.bytes.now job.entry.shape.rounds)) (asking (asks_by (plan_number plan) (job_of (call job.entry.bytes.now job.entry.shape.rounds)) order)) held.old held.new d result }
+    ensures { TicksBy (plan_number plan) (call job.entry.bytes.now job.entry.shape.rounds) order held.old held.new d result }
 {
     let landed = land(held, d);
     let symbol = sheet::draw_symbol(job.bytes, job.shape, landed.next);

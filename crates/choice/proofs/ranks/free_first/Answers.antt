@@ -97,4 +97,5 @@ returns c =
     let l = c.loop-slot in
     let first = led _ c.args.rest.now c.ranks_of-ranks.result c.ranks_of-ranks.ensures _ c.first_greatest-first.ensures in
     let upto : l.slot ≤ length c.args.slots.now = l.auto.slot-end (omega (arith, first.inside)) in
-    leads_chosen c.args.slots.now (c.args.rest.now ++ reverse c.args.made.now) l.best _ l.slot (omega (arith, l.invariant.passed)) c.loop-slot-test.false l.invariant.so_far
+    leads_chosen c.args.slots.now (c.args.rest.now ++ reverse c.args.made.now) l.best _ l.slot (omega (arith, l.invariant.passed))
+    c.loop-slot-test.false l.invariant.so_far

@@ -8,7 +8,8 @@ use Rattle.laws.proofs.Verdicts.{end, stop, step}
 use Rattle.laws.proofs.Jobs.{past_call}
 use Rattle.rules.specs.Plans.{plan_number}
 use Rattle.planner.specs.Runs.{run_of, Over}
-use Rattle.planner.proofs.Planning.{room_test_lem, no_plan, a_plan, roomy, refuses, call_refuses, past_tests, few_loads, fitting, never_refused, over_comes, over_writes}
+use Rattle.planner.proofs.Planning.{room_test_lem, no_plan, a_plan, roomy, refuses, call_refuses}
+use Rattle.planner.proofs.Planning.{past_tests, few_loads, fitting, never_refused, over_comes, over_writes}
 use Rattle.planner.proofs.answer.carry_out.Goals as goal
 
 ruleset walk = (past_call, no_plan, a_plan, stop, step, end, room_test_lem)

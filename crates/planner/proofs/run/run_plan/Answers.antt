@@ -106,4 +106,5 @@ returns c =
     let kept = l.invariant in
     let many = (limits asked a.job.shape taken).many_draws in
     over_so asked a.job.shape taken (plan_number a.plan) l.held kept.history l.d
-    (ends_over (job_of asked) (rule_of (job_of asked) (plan_number a.plan)) l.held l.d kept.history kept.walking (rw many c.loop-d-test.false)) l.loads kept.row.noted
+    (ends_over (job_of asked) (rule_of (job_of asked) (plan_number a.plan)) l.held l.d kept.history kept.walking (rw many c.loop-d-test.false))
+    l.loads kept.row.noted
