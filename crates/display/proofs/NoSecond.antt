@@ -76,6 +76,7 @@ draw_or_wait_one κs given answer answer' left left' asked p q = (same p q, refl
 
 pub rest_of_tick_one : NoSecond contracts.rest_of_tick.ended rest_of_tick.Reads.Asked rest_of_tick.Reads.Learnt
 rest_of_tick_one κs given answer answer' left left' asked p q =
-    let job : Job = record { slots = length given.0.now; load_time = 1; starting = []; draws = [] } in
-    (same (p.result nothing job refl) (q.result nothing job refl),
-    λ i. (same (p.slots_after nothing job refl) (q.slots_after nothing job refl) i, (tt, (tt, (tt, (tt, (tt, tt)))))))
+    let job : Job = record { slots = length given.0.now; load_time = 1; starting = []; draws = [] } in (
+      same (p.result nothing job refl) (q.result nothing job refl),
+      λ i. (same (p.slots_after nothing job refl) (q.slots_after nothing job refl) i, (tt, (tt, (tt, (tt, (tt, tt)))))),
+    )
