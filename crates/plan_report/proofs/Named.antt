@@ -13,7 +13,8 @@ differs name other apart = elim (cases_Bool (bytes_eq name other)) [ inl same �
 module _ (name : List ℕ) where
   unknown : name ≢ plan_name Aggressive → name ≢ plan_name Conservative → name ≢ plan_name Opt → name ≢ plan_name Lru → plan_named name ≡ 4
   unfolding name_at
-  unknown a c o l = rw (differs name (plan_name Aggressive) a, differs name (plan_name Conservative) c, differs name (plan_name Opt) o, differs name (plan_name Lru) l)
+  unknown a c o l =
+      rw (differs name (plan_name Aggressive) a, differs name (plan_name Conservative) c, differs name (plan_name Opt) o, differs name (plan_name Lru) l)
 
   -- Each name is text, of characters of one byte each.
   pub no_text : (IsUtf8 name → ⊥) → plan_named name ≡ 4

@@ -1,5 +1,6 @@
 -- What std's reader of digits gives is what the bytes name one after the other.
-use Rattle.std.proofs.Common.{ℕ, ◌+◌, ◌*◌, ◌-◌, ◌^◌, ◌<◌, ◌≤◌, ◌≡◌, Bool, true, false, cond, leb, List, [], ◌∷◌, length, get_or, Option, Some, None, Result, Ok, Err, inl, inr, sym, refl, ◌∙◌, rules, arith, leb-true, le-leb, leb-false, ne_eqb}
+use Rattle.std.proofs.Common.{ℕ, ◌+◌, ◌*◌, ◌-◌, ◌^◌, ◌<◌, ◌≤◌, ◌≡◌, Bool, true, false, cond, leb, List, [], ◌∷◌, length, get_or, Option, Some, None}
+use Rattle.std.proofs.Common.{Result, Ok, Err, inl, inr, sym, refl, ◌∙◌, rules, arith, leb-true, le-leb, leb-false, ne_eqb}
 use borrow.Author.Tests.{lt-leb}
 use Rattle.std.specs.Str.{IsUtf8, all_ascii_digits}
 use Rattle.std.specs.Str.Parse.{ParsesUnsigned}
