@@ -115,18 +115,6 @@ fn waits_in(waits: Parts, happening: Happening, ticks: u32) -> Parts
     }
 }
 
-// The waits count only while the draw that is asked about is the next one.
-fn waits_for(waits: Parts, awaits: bool, happening: Happening, ticks: u32) -> Parts
-    requires { Countable ticks waits }
-    ensures { result ≡ cond awaits (waits_in ticks happening waits) waits }
-{
-    if awaits {
-        waits_in(waits, happening, ticks)
-    } else {
-        waits
-    }
-}
-
 // The account after a turn from this display on, in which `out` is what the load that began in it took out, and which lasted until the
 // tick `later`.
 pub fn turn_told(
@@ -141,10 +129,13 @@ pub fn turn_told(
     requires { MayTell d.tick later account }
     ensures { result ≡ turn_told draw symbol d out on_record (later - d.tick) account }
 {
-    let awaits = d.next as u32 == draw;
     Account {
         brought: brought_in(account.brought, d, symbol),
         taken: taken_in(account.taken, on_record.begun, out, d.loads, symbol),
-        waits: waits_for(account.waits, awaits, on_record.happening, later - d.tick),
+        waits: if d.next as u32 == draw {
+            waits_in(account.waits, on_record.happening, later - d.tick)
+        } else {
+            account.waits
+        },
     }
 }
