@@ -2,12 +2,11 @@
 use Prim.Native.Nat.{ℕ, zero, suc, ◌+◌, ◌-◌, ◌≤◌, ◌<◌}
 use native.Mathlib.Omega.{arith}
 use mathlib.Core.Path.{◌≡◌, refl, sym, ap, ◌∙◌}
-use mathlib.Core.Bool.{Bool, true, false, cond, ◌&&◌}
+use mathlib.Core.Bool.{Bool, true, false, cond}
 use mathlib.Core.List.{List}
-use lib.ListN.{length, get_or, set, drop, length-set, get_or-eq_default}
-use lib.Seq.{get_or-set_same, get_or-set_other}
+use lib.ListN.{get_or, drop}
 use lib.Dec.{eqb, ltb}
-use borrow.Author.Tests.{eq-eqb, ne_eqb, eqb-true, eqb-false, lt-ltb, le-ltb}
+use borrow.Author.Tests.{eqb-true, eqb-false, lt-ltb, le-ltb}
 use Rattle.std.specs.Prelude.{Option, Some, None}
 use Rattle.rules.specs.declared.Load.{Load}
 use Rattle.rules.specs.declared.Cause.{Cause}
@@ -24,7 +23,7 @@ use Rattle.rules.specs.Display.{State, Rule, going, land, begun_by, beginning, a
 use Rattle.rules.specs.Display.{finished, tick}
 use Rattle.rules.specs.Refusals.{due, follow, most_ticks}
 use Rattle.rules.specs.Why.{brought_in, taken_in, more_waits, waits_in, tick_told, told}
-use Rattle.laws.proofs.Cases.{by_test, both_held}
+use Rattle.laws.proofs.Cases.{by_test}
 use Rattle.laws.proofs.Moves.{then_going, beginning_going, happened_going}
 use Rattle.display.specs.View.{History, loading_of, view, onward}
 use Rattle.display.specs.Moves.{nearer, landed_in}
@@ -39,43 +38,9 @@ use Rattle.checker.specs.Turn.{GoesOn}
 use Rattle.checker.specs.Accounts.{going_out, taken_of, turn_told}
 use Rattle.checker.proofs.Walks.{calm}
 
--- ---- What is in a slot once a load that ends in this tick is in its slot
-
-module _ (d : Display) (held : List ℕ) (q : ℕ) where
-  -- A slot into which no load ends now holds what it held, and that into which one ends holds its symbol.
-  pub landed_elsewhere : (eqb d.remaining 1 && eqb d.target q) ≡ false → get_or held q 0 ≡ get_or (landed_in d held) q 0
-  landed_elsewhere not_here =
-      by_test (eqb d.remaining 1)
-      (λ t.
-      let other : eqb d.target q ≡ false = rw t at not_here in
-      rw t (sym (get_or-set_other held d.target q d.incoming 0 (λ e. eqb-false d.target q other (sym e)))))
-      (λ t. rw t)
-
-  pub landed_here : (eqb d.remaining 1 && eqb d.target q) ≡ true → q < length held → d.incoming ≡ get_or (landed_in d held) q 0
-  landed_here ends_here within =
-      let (ends, here) = both_held (eqb d.remaining 1) (eqb d.target q) ends_here in
-      rw (ends, eqb-true d.target q here) (sym (get_or-set_same held q d.incoming 0 within))
-
-  -- Past the last slot a read gives 0.
-  pub past_landed : length held ≤ q → 0 ≡ get_or (landed_in d held) q 0
-  past_landed past =
-      by_test (eqb d.remaining 1)
-      (λ t.
-      let long : length (set held d.target d.incoming) ≤ q = rw length-set past in
-      rw t (sym (get_or-eq_default (set held d.target d.incoming) 0 long)))
-      (λ t. rw t (sym (get_or-eq_default held 0 past)))
-
 -- ---- What a load that ends in this tick brings
 
 module _ (d : Display) (x : ℕ) (earlier : Option ℕ) where
-  pub brings_it : (e : ℕ) → d.remaining ≡ 1 → d.incoming ≡ x → e ≡ d.loads - 1
-      → Some e ≡ brought_in x (loading_of d.remaining d.target d.incoming) d.loads earlier
-  brings_it e ends same is = rw (ends, eq-eqb d.incoming x same, is)
-
-  pub brings_another : d.remaining ≡ 1 → (d.incoming ≡ x → ⊥)
-      → earlier ≡ brought_in x (loading_of d.remaining d.target d.incoming) d.loads earlier
-  brings_another ends other = rw (ends, ne_eqb d.incoming x other)
-
   none_ends : (until q y : ℕ) → (until ≡ 1 → ⊥) → earlier ≡ brought_in x (loading_of until q y) d.loads earlier
   none_ends zero q y far = refl
   none_ends (suc zero) q y far = absurd (far refl)

@@ -2,7 +2,6 @@ pub mod Walks
 pub mod Ends
 pub mod Accounts
 pub mod Tells
-pub mod Copies
 pub mod Answers
 pub mod Reasons
 pub mod NoSecond

@@ -31,10 +31,7 @@ pub fn untold() -> Account
 fn ends_in(d: Display, slot: u8) -> bool
     ensures { result ≡ (eqb d.remaining 1 && eqb d.target slot) }
 {
-    if d.remaining != 1 {
-        return false;
-    }
-    d.target == slot as u16
+    d.remaining == 1 && d.target == slot as u16
 }
 
 // What the load that is asked for takes out: what its slot holds once a load that ends in this tick is in its slot. Past the last slot
@@ -45,15 +42,11 @@ fn taken_by(held: &[u16], d: Display, asked: Option<Load>) -> u16
     let Some(load) = asked else {
         return FREE;
     };
-    let slot = load.slot;
-    let at = slot as usize;
-    if held.len() <= at {
-        return 0;
+    match held.get(load.slot as usize) {
+        None => 0,
+        Some(_) if ends_in(d, load.slot) => d.incoming,
+        Some(symbol) => *symbol,
     }
-    if ends_in(d, slot) {
-        return d.incoming;
-    }
-    held[at]
 }
 
 // The same of the load that the list asks for in this tick.
@@ -63,23 +56,15 @@ pub fn going_out(list: LoadList<'_>, held: &[u16], d: Display) -> u16
     taken_by(held, d, asked_of(list, d.loads, d.tick))
 }
 
-// The event begun last, where this many have begun.
-fn last_event(loads: u32) -> u32
-    ensures { result ≡ loads - 1 }
-{
-    if loads == 0 { 0 } else { loads - 1 }
-}
-
-// A load of the symbol that ends in the tick that comes has brought it.
+// A load of the symbol that ends in the tick that comes has brought it: it is the event begun last.
 fn brought_in(earlier: Option<u32>, d: Display, symbol: u16) -> Option<u32>
     ensures { result ≡ brought_in symbol (loading_of d.remaining d.target d.incoming) d.loads earlier }
 {
-    if d.remaining == 1 {
-        if d.incoming == symbol {
-            return Some(last_event(d.loads));
-        }
+    if d.remaining == 1 && d.incoming == symbol {
+        Some(d.loads.saturating_sub(1))
+    } else {
+        earlier
     }
-    earlier
 }
 
 // The event that began took the symbol out where that is what its slot held.
@@ -93,13 +78,8 @@ fn taken_in(
     ensures { result ≡ taken_of symbol begun out loads earlier }
 {
     match begun {
-        Some(_) => {
-            if out == symbol {
-                return Some(loads);
-            }
-            earlier
-        }
-        None => earlier,
+        Some(_) if out == symbol => Some(loads),
+        _ => earlier,
     }
 }
 
@@ -111,18 +91,15 @@ fn more_waits(waits: Parts, cause: Cause, ticks: u32) -> Parts
     match cause {
         Cause::Awaited => Parts {
             own: waits.own + ticks,
-            another: waits.another,
-            nothing: waits.nothing,
+            ..waits
         },
         Cause::Another => Parts {
-            own: waits.own,
             another: waits.another + ticks,
-            nothing: waits.nothing,
+            ..waits
         },
         Cause::Nothing => Parts {
-            own: waits.own,
-            another: waits.another,
             nothing: waits.nothing + ticks,
+            ..waits
         },
     }
 }
@@ -133,20 +110,9 @@ fn waits_in(waits: Parts, happening: Happening, ticks: u32) -> Parts
     ensures { result ≡ waits_in ticks happening waits }
 {
     match happening {
-        Happening::Draw { slot: _ } => waits,
+        Happening::Draw { .. } => waits,
         Happening::Wait(cause) => more_waits(waits, cause, ticks),
     }
-}
-
-// The waits count only while the draw that is asked about is the next one.
-fn waits_for(waits: Parts, awaits: bool, happening: Happening, ticks: u32) -> Parts
-    requires { Countable ticks waits }
-    ensures { result ≡ cond awaits (waits_in ticks happening waits) waits }
-{
-    if awaits {
-        return waits_in(waits, happening, ticks);
-    }
-    waits
 }
 
 // The account after a turn from this display on, in which `out` is what the load that began in it took out, and which lasted until the
@@ -163,17 +129,13 @@ pub fn turn_told(
     requires { MayTell d.tick later account }
     ensures { result ≡ turn_told draw symbol d out on_record (later - d.tick) account }
 {
-    let earlier = account.brought;
-    let brought = brought_in(earlier, d, symbol);
-    let begun = on_record.begun;
-    let gone = account.taken;
-    let taken = taken_in(gone, begun, out, d.loads, symbol);
-    let happening = on_record.happening;
-    let awaits = d.next as u32 == draw;
-    let waits = waits_for(account.waits, awaits, happening, later - d.tick);
     Account {
-        brought,
-        taken,
-        waits,
+        brought: brought_in(account.brought, d, symbol),
+        taken: taken_in(account.taken, on_record.begun, out, d.loads, symbol),
+        waits: if d.next as u32 == draw {
+            waits_in(account.waits, on_record.happening, later - d.tick)
+        } else {
+            account.waits
+        },
     }
 }

@@ -7,10 +7,7 @@ pub fn copy_draws(ticks: &mut [u32], slots: &mut [u8], at: &[u32], from: &[u8], 
     ensures ticks { ticks.new ≡ take draws at.now ++ drop draws ticks.old }
     ensures slots { slots.new ≡ take draws from.now ++ drop draws slots.old }
 {
-    let mut place: usize = 0;
-    while place < draws as usize {
-        ticks[place] = at[place];
-        slots[place] = from[place];
-        place += 1;
-    }
+    let many = draws as usize;
+    ticks[..many].copy_from_slice(&at[..many]);
+    slots[..many].copy_from_slice(&from[..many]);
 }

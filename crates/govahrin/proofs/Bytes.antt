@@ -5,7 +5,7 @@ use native.Mathlib.Numerals.{add-one}
 use mathlib.Core.Bool.{false}
 use mathlib.Core.Path.{◌≡◌, refl, sym, ap, ◌∙◌}
 use mathlib.Core.List.{List, [], ◌∷◌, ◌++◌}
-use lib.ListN.{length, get_or, take, drop, length-append, length-drop}
+use lib.ListN.{length, get_or, take, drop}
 use lib.Seq.{take-suc, length-take-le}
 use lib.Dec.{ltb}
 use borrow.Author.Tests.{le-ltb}
@@ -27,11 +27,6 @@ one_more (x ∷ l) t = ap (λ (r : List ℕ). bytes32 x ++ r) (one_more l t)
 module _ (from to : List ℕ) (i : ℕ) where
   front : i ≤ length from → length (tick_bytes (take i from)) ≡ 4 * i
   front there = length-tick_bytes (take i from) ∙ ap (λ (n : ℕ). 4 * n) (length-take-le i from there)
-
-  pub put_length : i ≤ length from → 4 * i ≤ length to → length (lent (tick_bytes (take i from)) to) ≡ length to
-  put_length there here =
-      let e : length (tick_bytes (take i from)) ≡ 4 * i = front there in
-      length-append (tick_bytes (take i from)) _ ∙ rw (length-drop (length (tick_bytes (take i from))) to) (omega arith)
 
   pub put_more : i < length from
       → take (4 * i) (lent (tick_bytes (take i from)) to) ++ bytes32 (get_or from i 0) ++ drop (4 * i + 4) (lent (tick_bytes (take i from)) to)

@@ -14,17 +14,14 @@ fn event_or_none(event: Option<u32>) -> u32
 fn plain_account(account: Account) -> PlainReason
     ensures { result ≡ plain_account account }
 {
-    let brought = account.brought;
-    let taken = account.taken;
-    let waits = account.waits;
     PlainReason {
         number: 0,
         detail: 0,
-        brought: event_or_none(brought),
-        taken: event_or_none(taken),
-        own: waits.own,
-        another: waits.another,
-        nothing: waits.nothing,
+        brought: event_or_none(account.brought),
+        taken: event_or_none(account.taken),
+        own: account.waits.own,
+        another: account.waits.another,
+        nothing: account.waits.nothing,
     }
 }
 

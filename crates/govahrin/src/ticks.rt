@@ -10,9 +10,7 @@ use rules::MOST_DRAWS;
 pub fn tick_places(bytes: usize) -> usize
     ensures { result ≡ min (bytes / 4) most_draws }
 {
-    let places = bytes / 4;
-    let most = MOST_DRAWS as usize;
-    if places < most { places } else { most }
+    (bytes / 4).min(MOST_DRAWS as usize)
 }
 
 // Writes the first ticks of a row, and leaves the bytes after them alone.
@@ -20,9 +18,7 @@ pub fn put_ticks(to: &mut [u8], from: &[u32], count: u16)
     requires { ByteRoom count to.old from.now }
     ensures { to.new ≡ lent (tick_bytes (take count from.now)) to.old }
 {
-    let mut place: usize = 0;
-    while place < count as usize {
-        sheet::put_number32(to, 4 * place, from[place]);
-        place += 1;
+    for (place, &tick) in from[..count as usize].iter().enumerate() {
+        sheet::put_number32(to, 4 * place, tick);
     }
 }

@@ -1,11 +1,7 @@
 -- At each turn the ticks so far are at the front as bytes, and the rest is as it was.
-use Rattle.std.proofs.Common.{◌≡◌, ◌-◌, ◌≤◌, take, length}
+use Rattle.std.proofs.Common.{◌≡◌, take}
 use Rattle.rules.specs.Refusals.{tick_bytes, lent}
 use Rattle.govahrin.proofs.ticks.put_ticks.Given as goal
 
 abbrev pub invariant-loop-place : goal.invariant-loop-place
-invariant-loop-place l =
-    (l.place ≤ l.count) × ((length l.to ≡ length l.initial.to) × (l.to ≡ lent (tick_bytes (take l.place l.from)) l.initial.to))
-
-abbrev pub decreases-loop-place : goal.decreases-loop-place
-decreases-loop-place l = l.count - l.place
+invariant-loop-place l = l.to ≡ lent (tick_bytes (take l.place l.from)) l.initial.to
