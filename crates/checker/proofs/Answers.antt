@@ -24,7 +24,8 @@ use Rattle.laws.proofs.Checks.{checked_met, checked_past}
 use Rattle.sheet.specs.Ticks.{in_order}
 use Rattle.sheet.proofs.Lists.{past_list, same_events, at_order, past_order, ticks_hold, ticks_broken}
 use Rattle.display.specs.declared.state.Display.{Display}
-use Rattle.checker.specs.Follow.{HasRoom, HandedOut, events_along, runs_along}
+use Rattle.checker.specs.declared.job.TakenJob.{TakenJob}
+use Rattle.checker.specs.Follow.{HasRoom, HandedOut, call_of, events_along, runs_along}
 
 -- ---- The room
 
@@ -36,17 +37,20 @@ room_test_lem asked reading shape ticks slots r is taken e = rw (limits asked sh
 
 -- ---- The answer
 
--- What the run asks for is known once the job was taken.
+-- A job that was taken keeps to the limits, also for the rounds that its size names.
 pub taken_limits : (asked : Call) (shape : Unrolled) → read_call asked ≡ Ok shape → Limits (call asked.job shape.rounds) shape
 taken_limits asked shape taken = subst (λ (a : Call). Limits a shape) (same_call asked shape taken) (limits asked shape taken)
 
--- So it is past the test of the room.
-pub roomy_read : (asked : Call) (shape : Unrolled) (ticks slots : List ℕ) (r : Bool) → read_call asked ≡ Ok shape
-    → r ≡ (ltb (length ticks) shape.draws || ltb (length slots) shape.draws) → r ≡ false
-    → HasRoom (call asked.job shape.rounds) shape ticks slots
-roomy_read asked shape ticks slots r taken tested fails =
+-- So it is the call that was asked.
+pub asked_again : (asked : Call) (job : TakenJob) → read_call asked ≡ Ok job.shape → job.bytes.now ≡ asked.job → asked ≡ call_of job
+asked_again asked job taken there = same_call asked job.shape taken ∙ ap (λ (b : List ℕ). call b job.shape.rounds) (sym there)
+
+-- Past the test of the room.
+pub roomy_read : (shape : Unrolled) (ticks slots : List ℕ) (r : Bool)
+    → r ≡ (ltb (length ticks) shape.draws || ltb (length slots) shape.draws) → r ≡ false → HasRoom shape ticks slots
+roomy_read shape ticks slots r tested fails =
     let (tick_room, slot_room) = neither (ltb (length ticks) shape.draws) (ltb (length slots) shape.draws) (sym tested ∙ fails) in
-    record { limits = taken_limits asked shape taken; tick_room = ltb-false _ _ tick_room; slot_room = ltb-false _ _ slot_room }
+    record { tick_room = ltb-false _ _ tick_room; slot_room = ltb-false _ _ slot_room }
 
 -- Once both were read, the tests after those of the job and of the list decide.
 pub past_both : (asked : Call) (list : List ℕ) (shape : Unrolled) (count : ℕ) {later : List Test} {v : Verdict} → read_call asked ≡ Ok shape
@@ -88,18 +92,17 @@ module _ (asked : Call) (list ticks slots : List ℕ) where
         (refuses (EventTick first)
         (past_both asked list shape count taken read (step r room enough (at_order list (read_list list) count first refl read refl out))))
 
-    pub hands_out : r ≡ false → (done : Unit {0}) → Ok done ≡ in_order count bytes → (x : Result Display Refusal) (ticks' slots' : List ℕ)
-        → HandedOut (runs_along (call asked.job shape.rounds) count bytes) x ticks ticks' slots slots'
+    pub hands_out : r ≡ false → (done : Unit {0}) → Ok done ≡ in_order count bytes → (again : Call) → asked ≡ again
+        → (x : Result Display Refusal) (ticks' slots' : List ℕ) → HandedOut (runs_along again count bytes) x ticks ticks' slots slots'
         → HandedOut run x ticks ticks' slots slots'
     unfolding first
-    hands_out enough done e x ticks' slots' handed =
+    hands_out enough done e again is_again x ticks' slots' handed =
         let over : count ≤ first = ticks_hold count list done (rw same at e) in
-        let rounds : Call = call asked.job shape.rounds in
         let past : first_of (check_tests asked list (length ticks) (length slots)) ≡ clear =
         gives _ _ (past_both asked list shape count taken read (step r room enough (past_order list (read_list list) count first refl read refl over end))) in
-        let is : run ≡ runs_along rounds count bytes =
+        let is : run ≡ runs_along again count bytes =
         checked_past asked list (length ticks) (length slots) past
-        ∙ ap (λ (a : Call). follows (job_of a) (events_of list)) (same_call asked shape taken)
-        ∙ ap (follows (job_of rounds)) (same_events list (read_list list) count refl read)
-        ∙ ap (runs_along rounds count) (sym same) in
+        ∙ ap (λ (a : Call). follows (job_of a) (events_of list)) is_again
+        ∙ ap (follows (job_of again)) (same_events list (read_list list) count refl read)
+        ∙ ap (runs_along again count) (sym same) in
         subst (λ (y : Run). HandedOut y x ticks ticks' slots slots') (sym is) handed

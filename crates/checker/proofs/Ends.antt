@@ -17,7 +17,6 @@ use Rattle.rules.specs.Job.{Job, Call, shape_of, starting_symbols, job_of, most_
 use Rattle.rules.specs.declared.Event.{Event}
 use Rattle.rules.specs.Display.{State, Run, going, refused, then, finished, tick, run}
 use Rattle.rules.specs.Refusals.{answer_of, tick_of, slot_of, closing, follow, follows, most_ticks}
-use Rattle.laws.specs.Limits.{Limits}
 use Rattle.laws.proofs.Cases.{by_test}
 use Rattle.laws.proofs.Numbers.{some_number}
 use Rattle.laws.proofs.Symbols.{length_symbols}
@@ -28,7 +27,8 @@ use Rattle.display.specs.Moves.{started}
 use Rattle.display.specs.Tick.{Room, Ticks}
 use Rattle.display.proofs.Views.{starts_so}
 use Rattle.display.proofs.Going.{rest_done, rest_more, going_room}
-use Rattle.checker.specs.Follow.{answer_in, Ended}
+use Rattle.checker.specs.declared.job.TakenJob.{TakenJob}
+use Rattle.checker.specs.Follow.{answer_in, call_of, Ended}
 use Rattle.checker.specs.Turn.{Concludes, Closes, EndsAt}
 use Rattle.checker.proofs.Walks.{Walking, walking_start}
 
@@ -40,17 +40,17 @@ pub walking_first : (asked : Call) (events : List Event) (held : List ℕ) (d : 
 walking_first asked events held d ticks slots starts fresh =
     walking_start (job_of asked) events held d ticks slots (at_first (job_of asked)) (starts_so (job_of asked) held d starts fresh)
 
--- The numbers of a job, as the code has them in its shape.
-module _ {asked : Call} {shape : Unrolled} (limits : Limits asked shape) where
-  pub starting_size : (held : List ℕ) → held ≡ starting_symbols asked.job → length held ≡ shape.slots
+-- The numbers of a job that was taken, as the code has them in its shape.
+module _ (job : TakenJob) where
+  pub starting_size : (held : List ℕ) → held ≡ starting_symbols job.bytes.now → length held ≡ job.shape.slots
   starting_size held starts =
-      ap length starts ∙ length_symbols (shape_of asked.job).slots _ ∙ sym (ap (λ (s : Unrolled). s.slots) limits.shaped)
+      ap length starts ∙ length_symbols (shape_of job.bytes.now).slots _ ∙ sym (ap (λ (s : Unrolled). s.slots) job.limits.shaped)
 
   -- The ticks that a run may take.
-  pub limit_read : 8388607 + 1 + shape.load_time + shape.draws ≡ most_ticks (job_of asked)
+  pub limit_read : 8388607 + 1 + job.shape.load_time + job.shape.draws ≡ most_ticks (job_of (call_of job))
   limit_read =
-      let time : shape.load_time ≡ (shape_of asked.job).load_time = ap (λ (s : Unrolled). s.load_time) limits.shaped in
-      omega arith
+      let time : job.shape.load_time ≡ (shape_of job.bytes.now).load_time = ap (λ (s : Unrolled). s.load_time) job.limits.shaped in
+      let many = job.limits.many_draws in omega arith
 
 -- An event is left: refusal 14, and nothing counts as noted.
 pub ended_early : (count : ℕ) (d : Display) → d.loads < count → Ended count d (Err (EventLeft d.loads))

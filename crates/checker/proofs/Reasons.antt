@@ -12,14 +12,14 @@ use Rattle.rules.specs.declared.Account.{Account}
 use Rattle.rules.specs.declared.Unrolled.{Unrolled}
 use Rattle.rules.specs.Refusing.{refusal_number, refusal_detail}
 use Rattle.rules.specs.Order.{clear, met, first_of}
-use Rattle.rules.specs.Job.{Call, call, most_draws, draws_of, job_of}
+use Rattle.rules.specs.Job.{Call, most_draws, draws_of, job_of}
 use Rattle.rules.specs.declared.Event.{Event}
 use Rattle.rules.specs.LoadList.{events_of}
 use Rattle.rules.specs.Display.{refused}
 use Rattle.rules.specs.Refusals.{read_call, read_list, first_bad_tick, short_check, check_tests, checked, follows}
 use Rattle.rules.specs.Why.{why}
 use Rattle.laws.proofs.Verdicts.{gives, end, step}
-use Rattle.laws.proofs.Jobs.{limits, same_call}
+use Rattle.laws.proofs.Jobs.{limits}
 use Rattle.laws.proofs.Checks.{checked_met, checked_past}
 use Rattle.sheet.specs.Ticks.{in_order}
 use Rattle.sheet.proofs.Lists.{same_events, at_order, past_order, ticks_hold, ticks_broken}
@@ -53,7 +53,7 @@ module _ (asked : Call) (list : List ℕ) (draw : ℕ) where
         (gives _ _ (past_both asked list shape count taken read (step false room refl (at_order list (read_list list) count first refl read refl out)))))
 
     -- Past its tests it is the run along the list.
-    module _ (done : Unit {0}) (right : Ok done ≡ in_order count bytes) where
+    module _ (done : Unit {0}) (right : Ok done ≡ in_order count bytes) (again : Call) (is_again : asked ≡ again) where
       past : first_of (check_tests asked list most_draws most_draws) ≡ clear
       unfolding first
       past =
@@ -61,12 +61,12 @@ module _ (asked : Call) (list : List ℕ) (draw : ℕ) where
           gives _ _
           (past_both asked list shape count taken read (step false room refl (past_order list (read_list list) count first refl read refl over end)))
 
-      so : (r : Result Account Refusal) → AccountedFor (call asked.job shape.rounds) count bytes draw r
+      so : (r : Result Account Refusal) → AccountedFor again count bytes draw r
           → RanSo (job_of asked) (events_of list) draw (get_or (draws_of asked) draw 0) r
       so r accounted =
-          subst (λ (a : Call). RanSo (job_of a) (events_of list) draw (get_or (draws_of a) draw 0) r) (sym (same_call asked shape taken))
+          subst (λ (a : Call). RanSo (job_of a) (events_of list) draw (get_or (draws_of a) draw 0) r) (sym is_again)
           (subst
-          (λ (l : List Event). RanSo (job_of (call asked.job shape.rounds)) l draw (get_or (draws_of (call asked.job shape.rounds)) draw 0) r)
+          (λ (l : List Event). RanSo (job_of again) l draw (get_or (draws_of again) draw 0) r)
           (ap (events_along count) same ∙ sym (same_events list (read_list list) count refl read)) accounted)
 
       runs : checked asked list most_draws most_draws ≡ follows (job_of asked) (events_of list)
@@ -76,12 +76,12 @@ module _ (asked : Call) (list : List ℕ) (draw : ℕ) where
       many = (limits asked shape taken).many_draws
 
       -- The run is refused.
-      pub why_refused : (e : Refusal) → AccountedFor (call asked.job shape.rounds) count bytes draw (Err e) → reason_in (Err e) ≡ why asked list draw
+      pub why_refused : (e : Refusal) → AccountedFor again count bytes draw (Err e) → reason_in (Err e) ≡ why asked list draw
       why_refused e accounted =
           let halts : follows (job_of asked) (events_of list) ≡ refused (refusal_number e) (refusal_detail e) = so (Err e) accounted in
           rw (runs, halts)
 
-      module _ (account : Account) (accounted : AccountedFor (call asked.job shape.rounds) count bytes draw (Ok account)) where
+      module _ (account : Account) (accounted : AccountedFor again count bytes draw (Ok account)) where
         told_so : ToldSo (job_of asked) (events_of list) draw (get_or (draws_of asked) draw 0) account
         told_so = so (Ok account) accounted
 

@@ -5,10 +5,9 @@ use Rattle.rules.specs.declared.Load.{Load}
 use Rattle.rules.specs.declared.TickRecord.{TickRecord}
 use Rattle.rules.specs.declared.Parts.{Parts}
 use Rattle.rules.specs.declared.Account.{Account}
-use Rattle.rules.specs.declared.Unrolled.{Unrolled}
 use Rattle.rules.specs.declared.Reason.{Reason}
 use Rattle.rules.specs.Refusing.{refusal_number, refusal_detail}
-use Rattle.rules.specs.Job.{Job, Call, free, starting_symbols, draws_of, job_of}
+use Rattle.rules.specs.Job.{Job, Call, free, draws_of, job_of}
 use Rattle.rules.specs.LoadList.{events_in, head_size}
 use Rattle.rules.specs.declared.Event.{Event}
 use Rattle.rules.specs.Display.{State, going, refused, start}
@@ -16,7 +15,6 @@ use Rattle.rules.specs.Refusals.{follow, follows, most_ticks}
 use Rattle.rules.specs.Why.{untold, brought_in, waits_in, told}
 use Rattle.display.specs.View.{loading_of}
 use Rattle.display.specs.declared.state.Display.{Display}
-use Rattle.laws.specs.Limits.{Limits}
 
 -- What a load that is asked for takes out of these slots.
 abbrev pub going_out : Option Load → List ℕ → ℕ
@@ -54,11 +52,6 @@ pub record MayTell (tick later : ℕ) (account : Account) : Type 0 where
   pub onward : tick ≤ later
   pub top : later ≤ 4294967295
   pub passed : Passed tick account.waits
-
--- What the run that tells of a draw starts from: a job that was taken, and the starting symbols in the slots.
-pub record MayRunTold (asked : Call) (shape : Unrolled) (held : List ℕ) : Type 0 where
-  pub limits : Limits asked shape
-  pub starts : held ≡ starting_symbols asked.job
 
 -- A run that is accepted and has draw i, of symbol x, with the account of the rules of it.
 pub record ToldSo (job : Job) (events : List Event) (i x : ℕ) (account : Account) : Type 0 where

@@ -6,15 +6,19 @@ use Rattle.rules.specs.declared.Unrolled.{Unrolled}
 use Rattle.rules.specs.declared.Happening.{Happening}
 use Rattle.rules.specs.declared.Happening.TheVariants.{Draw, Wait}
 use Rattle.rules.specs.Refusing.{refusal_number, refusal_detail}
-use Rattle.rules.specs.Job.{Call, starting_symbols, most_draws, job_of}
+use Rattle.rules.specs.Job.{Call, call, starting_symbols, most_draws, job_of}
 use Rattle.rules.specs.LoadList.{events_in, head_size}
 use Rattle.rules.specs.declared.Event.{Event}
 use Rattle.rules.specs.Display.{Run, refused, finished}
 use Rattle.rules.specs.Refusals.{due, closing, follows, answer_of, tick_of, slot_of, ticks_of, slots_of, lent}
-use Rattle.laws.specs.Limits.{Limits}
 use Rattle.display.specs.View.{History, view}
 use Rattle.display.specs.Tick.{Room}
 use Rattle.display.specs.declared.state.Display.{Display}
+use Rattle.checker.specs.declared.job.TakenJob.{TakenJob}
+
+-- The call that a job was taken for: these rounds of it.
+abbrev pub call_of : TakenJob → Call
+call_of job = call job.bytes.now job.shape.rounds
 
 -- The events of a list of this many, and the run of a job along them.
 abbrev pub events_along : ℕ → List ℕ → List Event
@@ -37,9 +41,8 @@ abbrev pub ended_at : {A : Type 0} → Display → Result A Refusal → Result D
 ended_at d (Ok a) = Ok d
 ended_at d (Err r) = Err r
 
--- What a tick asks for: a job that was taken, all slots of the display, counters with room for one more, and a draw that remains.
-pub record MayTick (asked : Call) (shape : Unrolled) (held : List ℕ) (d : Display) : Type 0 where
-  pub limits : Limits asked shape
+-- What a tick asks for: all slots of the display, counters with room for one more, and a draw that remains.
+pub record MayTick (shape : Unrolled) (held : List ℕ) (d : Display) : Type 0 where
   pub all_slots : length held ≡ shape.slots
   pub room : Room d
   pub few_loads : d.loads < 4294967295
@@ -56,10 +59,9 @@ abbrev pub noted : Happening → (ℕ → ℕ) → ℕ → List ℕ → List ℕ
 noted (Draw q) what at buffer = set buffer at (what q)
 noted (Wait cause) what at buffer = buffer
 
--- What the run of a whole list starts from: a job that was taken, the starting symbols in the slots, and room to note the most draws.
-pub record MayRun (asked : Call) (shape : Unrolled) (held ticks slots : List ℕ) : Type 0 where
-  pub limits : Limits asked shape
-  pub starts : held ≡ starting_symbols asked.job
+-- What the run of a whole list starts from: the starting symbols in the slots, and room to note the most draws.
+pub record MayRun (job : TakenJob) (held ticks slots : List ℕ) : Type 0 where
+  pub starts : held ≡ starting_symbols job.bytes.now
   pub tick_room : length ticks ≡ most_draws
   pub slot_room : length slots ≡ most_draws
 
@@ -87,9 +89,8 @@ pub record CopyRoom (draws : ℕ) (ticks slots at from : List ℕ) : Type 0 wher
   pub ticks_from : draws ≤ length at
   pub slots_from : draws ≤ length from
 
--- The job was taken, and both lent buffers have a place for each draw.
-pub record HasRoom (asked : Call) (shape : Unrolled) (ticks slots : List ℕ) : Type 0 where
-  pub limits : Limits asked shape
+-- Both lent buffers have a place for each draw.
+pub record HasRoom (shape : Unrolled) (ticks slots : List ℕ) : Type 0 where
   pub tick_room : shape.draws ≤ length ticks
   pub slot_room : shape.draws ≤ length slots
 

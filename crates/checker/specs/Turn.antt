@@ -2,25 +2,23 @@
 use Rattle.std.specs.Prelude.{ℕ, ◌-◌, ◌≤◌, ◌<◌, ◌≡◌, true, List, map, length, take, drop, Option, Some, None, Result, Ok, Err}
 use Rattle.rules.specs.declared.refusal.Refusal.{Refusal}
 use Rattle.rules.specs.declared.TickRecord.{TickRecord}
-use Rattle.rules.specs.declared.Unrolled.{Unrolled}
 use Rattle.rules.specs.Refusing.{refusal_number, refusal_detail}
-use Rattle.rules.specs.Job.{Job, Call, job_of}
+use Rattle.rules.specs.Job.{Job, job_of}
 use Rattle.rules.specs.declared.Event.{Event}
 use Rattle.rules.specs.Display.{State, Run, going, refused, then, finished, run}
 use Rattle.rules.specs.Refusals.{closing, follow, most_ticks, tick_of, slot_of}
-use Rattle.laws.specs.Limits.{Limits}
 use Rattle.display.specs.View.{History, view}
 use Rattle.display.specs.Tick.{OnRecord}
 use Rattle.display.specs.Still.{MayRest, Rested}
 use Rattle.display.specs.declared.state.Display.{Display}
+use Rattle.checker.specs.declared.job.TakenJob.{TakenJob}
 use Rattle.checker.specs.declared.run.Turn.{Turn}
-use Rattle.checker.specs.Follow.{NothingDue, Noted}
+use Rattle.checker.specs.Follow.{call_of, NothingDue, Noted}
 
--- What a turn asks for: a job that was taken, all slots of the display, and a display that has counted no more than ticks have passed.
-pub record MayTurn (asked : Call) (shape : Unrolled) (held : List ℕ) (d : Display) : Type 0 where
-  pub limits : Limits asked shape
-  pub all_slots : length held ≡ shape.slots
-  pub rests : MayRest (most_ticks (job_of asked)) d
+-- What a turn asks for: all slots of the display, and a display that has counted no more than ticks have passed.
+pub record MayTurn (job : TakenJob) (held : List ℕ) (d : Display) : Type 0 where
+  pub all_slots : length held ≡ job.shape.slots
+  pub rests : MayRest (most_ticks (job_of (call_of job))) d
   pub loads : d.loads ≤ d.tick
 
 -- A run that ended with h beside the display: accepted, and with every draw made, or refused.

@@ -2,13 +2,14 @@
 ghost use Rattle.std.specs.Prelude.{◌≡◌, ◌||◌, length, ltb};
 ghost use Rattle.rules.specs.Job.{call};
 ghost use Rattle.rules.specs.Refusals.{checked, answer_of, ticks_of, slots_of, lent};
-ghost use Rattle.checker.specs.Follow.{HasRoom, HandedOut, runs_along};
+ghost use Rattle.checker.specs.Follow.{HasRoom, HandedOut, call_of, runs_along};
 
 use crate::checked::{Checked, answered};
 use crate::copy::copy_draws;
+use crate::job::TakenJob;
 use crate::run::run_list;
 use display::Display;
-use rules::{Answer, MOST_DRAWS, Refusal, Unrolled};
+use rules::{Answer, MOST_DRAWS, Refusal};
 use sheet::LoadList;
 
 // 7. There are fewer places than draws in the buffer for ticks or in the one for slots.
@@ -23,20 +24,19 @@ fn short_room(draws: u16, ticks: usize, slots: usize) -> bool
 
 // The run of a list that is in order, with its draws handed out where it is accepted.
 fn hand_out(
-    job: &[u8],
+    job: TakenJob<'_>,
     list: LoadList<'_>,
-    shape: Unrolled,
     ticks: &mut [u32],
     slots: &mut [u8],
 ) -> Result<Display, Refusal>
-    requires { HasRoom (call job.now shape.rounds) shape ticks.old slots.old }
-    ensures { HandedOut (runs_along (call job.now shape.rounds) list.entry.count list.entry.bytes.now) result ticks.old ticks.new slots.old slots.new }
+    requires { HasRoom job.shape ticks.old slots.old }
+    ensures { HandedOut (runs_along (call_of job.entry) list.entry.count list.entry.bytes.now) result ticks.old ticks.new slots.old slots.new }
 {
     let mut at = [0u32; MOST_DRAWS as usize];
     let mut from = [0u8; MOST_DRAWS as usize];
-    let mut held = sheet::starting_slots(job, shape.slots);
-    let k = shape.slots as usize;
-    let d = run_list(job, list, shape, &mut held[..k], &mut at, &mut from)?;
+    let k = job.shape.slots;
+    let mut held = sheet::starting_slots(job.bytes, k);
+    let d = run_list(job, list, &mut held[..k as usize], &mut at, &mut from)?;
     copy_draws(ticks, slots, &at, &from, d.next);
     Ok(d)
 }
@@ -51,13 +51,13 @@ fn run_check(
 ) -> Result<Display, Refusal>
     ensures { HandedOut (checked (call job.now rounds) list.now (length ticks.old) (length slots.old)) result ticks.old ticks.new slots.old slots.new }
 {
-    let shape = sheet::read_call(job, rounds)?;
+    let job = TakenJob::read(job, rounds)?;
     let list = LoadList::read(list)?;
-    if short_room(shape.draws, ticks.len(), slots.len()) {
+    if short_room(job.shape.draws, ticks.len(), slots.len()) {
         return Err(Refusal::ShortRoom);
     }
     list.check_ticks()?;
-    hand_out(job, list, shape, ticks, slots)
+    hand_out(job, list, ticks, slots)
 }
 
 // The check with the number of draws that it reports, for a host that has to know how much of the buffers was written.

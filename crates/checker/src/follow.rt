@@ -1,12 +1,13 @@
 // A tick of the display along a load list: what the list asks for, and the three steps.
 ghost use Rattle.std.specs.Prelude.{◌≡◌, drop};
-ghost use Rattle.rules.specs.Job.{call, job_of};
+ghost use Rattle.rules.specs.Job.{job_of};
 ghost use Rattle.rules.specs.Refusals.{due, follow};
 ghost use Rattle.display.specs.Tick.{Ticks, Recorded};
-ghost use Rattle.checker.specs.Follow.{MayTick, events_along};
+ghost use Rattle.checker.specs.Follow.{MayTick, call_of, events_along};
 
+use crate::job::TakenJob;
 use display::{Display, Ticked, land, rest_of_tick};
-use rules::{Load, Refusal, Unrolled};
+use rules::{Load, Refusal};
 use sheet::LoadList;
 
 // What the list asks for in this tick, when this many of its loads have begun.
@@ -28,19 +29,18 @@ pub fn asked_of(list: LoadList<'_>, loads: u32, tick: u32) -> Option<Load>
 
 // One tick along the list, while draws remain: land, begin what the list asks for, then draw or wait.
 pub fn follow_tick(
-    job: &[u8],
+    job: TakenJob<'_>,
     list: LoadList<'_>,
-    shape: Unrolled,
     held: &mut [u16],
     d: Display,
 ) -> Result<Ticked, Refusal>
-    requires { MayTick (call job.now shape.rounds) shape held.old d }
-    ensures ticks { Ticks (job_of (call job.now shape.rounds)) (follow (events_along list.entry.count list.entry.bytes.now)) held.old held.new d result }
-    ensures recorded { Recorded (job_of (call job.now shape.rounds)) (follow (events_along list.entry.count list.entry.bytes.now)) held.old d result }
+    requires { MayTick job.shape held.old d }
+    ensures ticks { Ticks (job_of (call_of job.entry)) (follow (events_along list.entry.count list.entry.bytes.now)) held.old held.new d result }
+    ensures recorded { Recorded (job_of (call_of job.entry)) (follow (events_along list.entry.count list.entry.bytes.now)) held.old d result }
 {
     let landed = land(held, d);
     let asked = asked_of(list, landed.loads, landed.tick);
-    let symbol = sheet::draw_symbol(job, shape, landed.next);
+    let symbol = sheet::draw_symbol(job.bytes, job.shape, landed.next);
     let done = list.count as u32 <= landed.loads;
-    rest_of_tick(held, landed, shape.load_time, asked, symbol, done)
+    rest_of_tick(held, landed, job.shape.load_time, asked, symbol, done)
 }

@@ -6,6 +6,7 @@ mod answer;
 mod checked;
 mod copy;
 mod follow;
+mod job;
 mod reason;
 mod rest;
 mod run;

@@ -2,50 +2,44 @@
 ghost use Rattle.std.specs.Prelude.{◌≡◌, ◌<◌, get_or};
 ghost use Rattle.rules.specs.Job.{call, draws_of};
 ghost use Rattle.rules.specs.Why.{why};
-ghost use Rattle.laws.specs.Limits.{Limits};
+ghost use Rattle.checker.specs.Follow.{call_of};
 ghost use Rattle.checker.specs.Accounts.{AccountedFor, reason_in};
 
 use crate::account::untold;
+use crate::job::TakenJob;
 use crate::run::run_told;
-use rules::{Account, FREE, Reason, Refusal, Unrolled};
+use rules::{Account, FREE, Reason, Refusal};
 use sheet::LoadList;
 
 // The symbol of a draw; past the last draw there is none.
-fn symbol_of(job: &[u8], shape: Unrolled, draw: u32) -> u16
-    requires { Limits (call job.now shape.rounds) shape }
-    ensures { draw < shape.draws → result ≡ get_or (draws_of (call job.now shape.rounds)) draw 0 }
+fn symbol_of(job: TakenJob<'_>, draw: u32) -> u16
+    ensures { draw < job.entry.shape.draws → result ≡ get_or (draws_of (call_of job.entry)) draw 0 }
 {
-    if shape.draws as u32 <= draw {
+    if job.shape.draws as u32 <= draw {
         return FREE;
     }
-    sheet::draw_symbol(job, shape, draw as u16)
+    sheet::draw_symbol(job.bytes, job.shape, draw as u16)
 }
 
 // The account from the run for a job and a list that were read. Nobody asks for the ticks and the slots of all draws, so none are noted.
-fn account_of(
-    job: &[u8],
-    list: LoadList<'_>,
-    shape: Unrolled,
-    draw: u32,
-) -> Result<Account, Refusal>
-    requires { Limits (call job.now shape.rounds) shape }
-    ensures { AccountedFor (call job.now shape.rounds) list.entry.count list.entry.bytes.now draw result }
+fn account_of(job: TakenJob<'_>, list: LoadList<'_>, draw: u32) -> Result<Account, Refusal>
+    ensures { AccountedFor (call_of job.entry) list.entry.count list.entry.bytes.now draw result }
 {
-    let mut held = sheet::starting_slots(job, shape.slots);
-    let k = shape.slots as usize;
-    let symbol = symbol_of(job, shape, draw);
-    run_told(job, list, shape, &mut held[..k], draw, symbol)
+    let k = job.shape.slots;
+    let mut held = sheet::starting_slots(job.bytes, k);
+    let symbol = symbol_of(job, draw);
+    run_told(job, list, &mut held[..k as usize], draw, symbol)
 }
 
 // The account of this draw, or the one refusal: those of a check in their order, then 18. No room is lent, so 7 is not given.
 fn explain(job: &[u8], list: &[u8], draw: u32, rounds: u32) -> Result<Account, Refusal>
     ensures { reason_in result ≡ why (call job.now rounds) list.now draw }
 {
-    let shape = sheet::read_call(job, rounds)?;
+    let job = TakenJob::read(job, rounds)?;
     let list = LoadList::read(list)?;
     list.check_ticks()?;
-    let account = account_of(job, list, shape, draw)?;
-    if shape.draws as u32 <= draw {
+    let account = account_of(job, list, draw)?;
+    if job.shape.draws as u32 <= draw {
         return Err(Refusal::NoSuchDraw);
     }
     Ok(account)

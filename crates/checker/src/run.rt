@@ -1,16 +1,17 @@
 // The run of a display along a load list: with its draws noted, or with the account of one of them.
 ghost use Rattle.std.specs.Prelude.{◌≡◌, ◌<◌, length};
-ghost use Rattle.rules.specs.Job.{call, draws_of, job_of};
-ghost use Rattle.checker.specs.Follow.{noted, MayRun, Noted, events_along, runs_along};
+ghost use Rattle.rules.specs.Job.{draws_of, job_of, starting_symbols};
+ghost use Rattle.checker.specs.Follow.{noted, MayRun, Noted, call_of, events_along, runs_along};
 ghost use Rattle.checker.specs.Turn.{MayTurn, Turned};
-ghost use Rattle.checker.specs.Accounts.{MayRunTold, RanSo};
+ghost use Rattle.checker.specs.Accounts.{RanSo};
 
 use crate::account::{going_out, turn_told, untold};
 use crate::checked::finish;
 use crate::follow::follow_tick;
+use crate::job::TakenJob;
 use crate::rest::after_waits;
 use display::{Display, start};
-use rules::{Account, Happening, LAST_TICK, Refusal, TickRecord, Unrolled};
+use rules::{Account, Happening, LAST_TICK, Refusal, TickRecord};
 use sheet::LoadList;
 
 // A turn of the run: the tick on record, and the display after the waits that follow it.
@@ -24,25 +25,24 @@ struct Turn {
 // turn is not copied through memory.
 #[inline(always)]
 fn take_turn(
-    job: &[u8],
+    job: TakenJob<'_>,
     list: LoadList<'_>,
-    shape: Unrolled,
     held: &mut [u16],
     d: Display,
 ) -> Result<Option<Turn>, Refusal>
-    requires { MayTurn (call job.now shape.rounds) shape held.old d }
-    ensures { Turned (job_of (call job.now shape.rounds)) (events_along list.entry.count list.entry.bytes.now) held.old held.new d result }
+    requires { MayTurn job held.old d }
+    ensures { Turned (job_of (call_of job.entry)) (events_along list.entry.count list.entry.bytes.now) held.old held.new d result }
 {
-    let limit = LAST_TICK + 1 + shape.load_time as u32 + shape.draws as u32;
+    let limit = LAST_TICK + 1 + job.shape.load_time as u32 + job.shape.draws as u32;
     let draw = d.next;
-    if shape.draws <= draw {
+    if job.shape.draws <= draw {
         finish(d, list.count)?;
         return Ok(None);
     }
     if limit <= d.tick {
         return Err(Refusal::EndlessWait { draw: draw as u32 });
     }
-    let ticked = follow_tick(job, list, shape, held, d)?;
+    let ticked = follow_tick(job, list, held, d)?;
     let on_record = ticked.on_record;
     let later = after_waits(list, ticked.display, on_record.happening, limit);
     Ok(Some(Turn { on_record, later }))
@@ -63,18 +63,17 @@ fn note(ticks: &mut [u32], slots: &mut [u8], draw: u16, tick: u32, happening: Ha
 
 // The run of the whole list from the slots as they start, with the draws noted in the two buffers. It answers the display at its end.
 pub fn run_list(
-    job: &[u8],
+    job: TakenJob<'_>,
     list: LoadList<'_>,
-    shape: Unrolled,
     held: &mut [u16],
     ticks: &mut [u32],
     slots: &mut [u8],
 ) -> Result<Display, Refusal>
-    requires { MayRun (call job.now shape.rounds) shape held.old ticks.old slots.old }
-    ensures { Noted (length (draws_of (call job.now shape.rounds))) (runs_along (call job.now shape.rounds) list.entry.count list.entry.bytes.now) result ticks.new slots.new }
+    requires { MayRun job held.old ticks.old slots.old }
+    ensures { Noted (length (draws_of (call_of job.entry))) (runs_along (call_of job.entry) list.entry.count list.entry.bytes.now) result ticks.new slots.new }
 {
     let mut d = start();
-    while let Some(turn) = take_turn(job, list, shape, held, d)? {
+    while let Some(turn) = take_turn(job, list, held, d)? {
         note(ticks, slots, d.next, d.tick, turn.on_record.happening);
         d = turn.later;
     }
@@ -83,21 +82,20 @@ pub fn run_list(
 
 // The same run with the account of a draw, which is of this symbol. No draw is noted.
 pub fn run_told(
-    job: &[u8],
+    job: TakenJob<'_>,
     list: LoadList<'_>,
-    shape: Unrolled,
     held: &mut [u16],
     asked: u32,
     symbol: u16,
 ) -> Result<Account, Refusal>
-    requires { MayRunTold (call job.now shape.rounds) shape held.old }
-    ensures { RanSo (job_of (call job.now shape.rounds)) (events_along list.entry.count list.entry.bytes.now) asked symbol result }
+    requires { held.old ≡ starting_symbols job.bytes.now }
+    ensures { RanSo (job_of (call_of job.entry)) (events_along list.entry.count list.entry.bytes.now) asked symbol result }
 {
     let mut d = start();
     let mut account = untold();
     loop {
         let out = going_out(list, held, d);
-        let Some(turn) = take_turn(job, list, shape, held, d)? else {
+        let Some(turn) = take_turn(job, list, held, d)? else {
             return Ok(account);
         };
         let later = turn.later;

@@ -2,7 +2,7 @@
 use Rattle.std.proofs.Common.{◌≡◌, ℕ, length, sym, ap, ◌∙◌}
 use lib.Dec.{leb}
 use Rattle.rules.specs.declared.Unrolled.{Unrolled}
-use Rattle.rules.specs.Job.{call, job_of}
+use Rattle.rules.specs.Job.{job_of}
 use Rattle.rules.specs.LoadList.{head_size}
 use Rattle.rules.specs.Refusals.{follow}
 use Rattle.laws.proofs.Events.{length-events_in}
@@ -10,7 +10,7 @@ use Rattle.display.proofs.Keeps.{land_keeps}
 use Rattle.display.proofs.Landed.{landed_awaits}
 use Rattle.display.proofs.Steps.{tick_so}
 use Rattle.display.proofs.Views.{lands_so}
-use Rattle.checker.specs.Follow.{events_along}
+use Rattle.checker.specs.Follow.{call_of, events_along}
 use Rattle.checker.proofs.follow.follow_tick.Goals as goal
 use Rattle.std.proofs.Common.{drop}
 
@@ -19,8 +19,8 @@ returns c =
     let a = c.args in
     let held₁ = c.land-landed.new.slots in
     let l = c.land-landed.result in
-    let job = job_of (call a.job.now a.shape.rounds) in
-    let limits = c.requires.limits in
+    let job = job_of (call_of a.job) in
+    let limits = c.args.job.limits in
     let lands = lands_so a.held.now held₁ a.d l c.land-landed.ensures.display c.land-landed.ensures.slots in
     let size : job.slots ≡ length held₁ = sym (c.land-landed.auto.slots ∙ c.requires.all_slots ∙ ap (λ (s : Unrolled). s.slots) limits.shaped) in
     let symbol = c.draw_symbol-symbol.result in

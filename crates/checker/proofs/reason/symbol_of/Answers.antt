@@ -4,4 +4,4 @@ use Rattle.laws.proofs.Jobs.{draw_read}
 use Rattle.checker.proofs.reason.symbol_of.Goals as goal
 
 pub returns : goal.returns
-returns c = λ within. c.draw_symbol.ensures ∙ sym (draw_read c.requires c.args.draw within)
+returns c = λ within. c.draw_symbol.ensures ∙ sym (draw_read c.args.job.limits c.args.draw within)
