@@ -27,7 +27,9 @@ pub fn asked_of(list: LoadList<'_>, loads: u32, tick: u32) -> Option<Load>
     None
 }
 
-// One tick along the list, while draws remain: land, begin what the list asks for, then draw or wait.
+// One tick along the list, while draws remain: land, begin what the list asks for, then draw or wait. It stands in line in the turn, so
+// that no tick copies the job, the list and the display through memory.
+#[inline(always)]
 pub fn follow_tick(
     job: TakenJob<'_>,
     list: LoadList<'_>,
