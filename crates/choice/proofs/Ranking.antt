@@ -58,7 +58,8 @@ module _ (row : List ℕ) where
   unfolding ranks_to
   ranks_none slots = refl
 
-  pub ranks_more : (slots ranks : List ℕ) (slot r : ℕ) → slot < length slots → length slots ≤ most_slots → r ≡ suc (rank row (get_or slots slot 0))
+  pub ranks_more : (slots ranks : List ℕ) (slot r : ℕ) → slot < length slots → length slots ≤ most_slots
+      → r ≡ suc (rank row (get_or slots slot 0))
       → ranks ≡ ranks_to slots slot → set ranks slot r ≡ ranks_to slots (slot + 1)
   unfolding raised ranks_to
   ranks_more slots ranks slot r within few e before =

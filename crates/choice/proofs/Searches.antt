@@ -21,7 +21,8 @@ First Stops Passes row r =
     MatchOption r (AllWithin Passes row 0 (length row)) (λ i. (i < length row) × HoldsAt Stops row i × AllWithin Passes row 0 i)
 
 -- A search for x.
-pub found_first : (x : ℕ) (row : List ℕ) (r : Option ℕ) (n : ℕ) → First (λ y. y ≡ x) (λ y. y ≡ x → ⊥) row r → n ≡ unwrap_or r (length row)
+pub found_first : (x : ℕ) (row : List ℕ) (r : Option ℕ) (n : ℕ) → First (λ y. y ≡ x) (λ y. y ≡ x → ⊥) row r
+    → n ≡ unwrap_or r (length row)
     → Found x row n
 unfolding place
 found_first x row r n first is =

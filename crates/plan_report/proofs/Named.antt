@@ -8,7 +8,8 @@ use Rattle.plan_report.specs.Names.{name_at, plan_name, plan_named}
 use Rattle.rules.specs.declared.Plan.TheVariants.{Aggressive, Conservative, Opt, Lru}
 
 differs : (name other : List ℕ) → name ≢ other → bytes_eq name other ≡ false
-differs name other apart = elim (cases_Bool (bytes_eq name other)) [ inl same ↦ absurd (apart ((bytes_eq-Decides name other).0 same)) | inr apart' ↦ apart' ]
+differs name other apart =
+    elim (cases_Bool (bytes_eq name other)) [ inl same ↦ absurd (apart ((bytes_eq-Decides name other).0 same)) | inr apart' ↦ apart' ]
 
 module _ (name : List ℕ) where
   unknown : name ≢ plan_name Aggressive → name ≢ plan_name Conservative → name ≢ plan_name Opt → name ≢ plan_name Lru → plan_named name ≡ 4
@@ -43,7 +44,8 @@ module _ (name : List ℕ) where
     unfolding name_at
     lru is = rw (sym same ∙ is)
 
-    pub other : text ≢ plan_name Aggressive → text ≢ plan_name Conservative → text ≢ plan_name Opt → text ≢ plan_name Lru → plan_named name ≡ 4
+    pub other : text ≢ plan_name Aggressive → text ≢ plan_name Conservative → text ≢ plan_name Opt → text ≢ plan_name Lru
+        → plan_named name ≡ 4
     other a c o l = unknown (λ is. a (same ∙ is)) (λ is. c (same ∙ is)) (λ is. o (same ∙ is)) (λ is. l (same ∙ is))
 
 pub ruleset by_name = (aggressive, conservative, opt, lru, other, no_text)

@@ -42,7 +42,8 @@ length-first count row there =
 
 -- The order of a number is the load of that number, and past the last there is none.
 pub order_there : (count at : ℕ) (row : List ℕ) (t d q x : ℕ) (s : State) → at < count → count ≤ length row
-    → loaded t d q x ≡ load_of (get_or row at 0) → order_asks (Some (record { miss = d; load = load q x })) s ≡ earliest (drop at (first_loads count row)) s
+    → loaded t d q x ≡ load_of (get_or row at 0)
+    → order_asks (Some (record { miss = d; load = load q x })) s ≡ earliest (drop at (first_loads count row)) s
 order_there count at row t d q x s within there is =
     let inside : at < length (first_loads count row) = let all = length-first count row there in omega arith in
     ap (λ (e : Loaded). earliest (e ∷ drop (suc at) (first_loads count row)) s) (is ∙ sym (load_first count at row within))
@@ -65,7 +66,8 @@ module _ (b : Option Load) (tick draw at : ℕ) (row : List ℕ) where
   pub noted_none : b ≡ None → loads_in row ≡ noted_load b tick draw at (loads_in row)
   noted_none e = rw e
 
-  pub noted_one : (q x n : ℕ) → b ≡ Some (load q x) → load_of n ≡ loaded tick draw q x → loads_in (set row at n) ≡ noted_load b tick draw at (loads_in row)
+  pub noted_one : (q x n : ℕ) → b ≡ Some (load q x) → load_of n ≡ loaded tick draw q x
+      → loads_in (set row at n) ≡ noted_load b tick draw at (loads_in row)
   noted_one q x n e is = rw e (map_set load_of row at n ∙ ap (set (loads_in row) at) is)
 
   pub noted_past : (q x : ℕ) → b ≡ Some (load q x) → length row ≤ at → loads_in row ≡ noted_load b tick draw at (loads_in row)

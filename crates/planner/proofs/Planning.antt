@@ -35,7 +35,8 @@ use Rattle.planner.specs.Runs.{run_of, Over, HasRoom, ComesTo}
 -- ---- The order of the refusals, as the code meets it
 
 -- The test of the lent room, as the code has it from the shape that was read.
-pub room_test_lem : (asked : Call) (reading : Result Unrolled Refusal) (shape : Unrolled) (room : ℕ) (r : Bool) → reading ≡ read_call asked → reading ≡ Ok shape
+pub room_test_lem : (asked : Call) (reading : Result Unrolled Refusal) (shape : Unrolled) (room : ℕ) (r : Bool)
+    → reading ≡ read_call asked → reading ≡ Ok shape
     → r ≡ ltb room (head_size + event_size * shape.draws) → r ≡ short_plan asked room
 unfolding short_plan
 room_test_lem asked reading shape room r is taken e = rw (limits asked shape (sym is ∙ taken)).many_draws e

@@ -65,7 +65,8 @@ pub limits_of : (job : TakenJob) → Limits (call job.bytes.now job.shape.rounds
 limits_of job = limits (call job.bytes.now job.shape.rounds) job.shape job.taken
 
 -- What is asked for with the landed display at hand is what the plan asks for in its state.
-pub asked_landed : {asked : Call} {shape : Unrolled} (plan : ℕ) (order : Option Order) (row held : List ℕ) (d l : Display) (symbol : ℕ) (load : Option Load)
+pub asked_landed : {asked : Call} {shape : Unrolled} (plan : ℕ) (order : Option Order) (row held : List ℕ) (d l : Display)
+    (symbol : ℕ) (load : Option Load)
     → Limits asked shape
     → LandKeeps d l
     → d.next < shape.draws
@@ -131,7 +132,8 @@ pub record MidRun (plan : ℕ) (asked : Call) (size orders : ℕ) (held loads : 
   pub row : RowKept plan asked orders history.begun d.loads loads
 
 -- A tick by what the order and the plan ask for is a tick by the plan: the row has the orders that are still to come.
-pub by_plan : (plan : ℕ) (asked : Call) (orders : ℕ) (loads : List ℕ) (held held' : List ℕ) (d : Display) (order : Option Order) (r : Result Ticked Refusal)
+pub by_plan : (plan : ℕ) (asked : Call) (orders : ℕ) (loads : List ℕ) (held held' : List ℕ) (d : Display)
+    (order : Option Order) (r : Result Ticked Refusal)
     {begun : List Loaded} → RowKept plan asked orders begun d.loads loads
     → ((s : State) → order_asks order s ≡ earliest (drop d.loads (first_loads orders loads)) s)
     → Ticks (job_of asked) (asking (asks_by plan (job_of asked) order)) held held' d r

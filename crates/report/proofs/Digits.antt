@@ -1,5 +1,6 @@
 -- What std's reader of digits gives is what the bytes name one after the other.
-use Rattle.std.proofs.Common.{ℕ, ◌+◌, ◌*◌, ◌-◌, ◌^◌, ◌<◌, ◌≤◌, ◌≡◌, Bool, true, false, cond, leb, List, [], ◌∷◌, length, get_or, Option, Some, None}
+use Rattle.std.proofs.Common.{ℕ, ◌+◌, ◌*◌, ◌-◌, ◌^◌, ◌<◌, ◌≤◌, ◌≡◌, Bool, true, false, cond, leb, List, [], ◌∷◌, length, get_or}
+use Rattle.std.proofs.Common.{Option, Some, None}
 use Rattle.std.proofs.Common.{Result, Ok, Err, inl, inr, sym, refl, ◌∙◌, rules, arith, leb-true, le-leb, leb-false, ne_eqb}
 use borrow.Author.Tests.{lt-leb}
 use Rattle.std.specs.Str.{IsUtf8, all_ascii_digits}
@@ -88,7 +89,8 @@ module _ (b : ℕ) (rest : List ℕ) (digit : is_digit b ≡ true) where
   whole : (b ≡ 48 → length rest ≡ 0) → rounds_in (b ∷ rest) ≡ named 0 (b ∷ rest)
   whole single = elim (cases_eq b 48) [ inl zero ↦ from_zero zero (single zero) | inr other ↦ from_other other ]
 
-tells : {E : Type 0} (word : List ℕ) (r : Result ℕ E) → OkIff r ((all_ascii_digits word ≡ true) × (0 < length word) × (value 0 word < 2 ^ 32)) (value 0 word)
+tells : {E : Type 0} (word : List ℕ) (r : Result ℕ E)
+    → OkIff r ((all_ascii_digits word ≡ true) × (0 < length word) × (value 0 word < 2 ^ 32)) (value 0 word)
     → 0 < length word → result_ok r ≡ named 0 word
 tells word (Ok x) ((digits, some, small), e) more = rw (digits, le-leb (value 0 word) most_rounds (omega arith), e)
 tells word (Err e) never more = elim (cases_Bool (all_ascii_digits word)) [
