@@ -71,6 +71,13 @@ refused_met asked r e =
     is ∙ ap (λ (m : ℕ). met m d) (sym number) ∙ ap (met (refusal_number (call_refusal n))) (sym detail)
     ∙ ap (λ (r : Refusal). met (refusal_number r) (refusal_detail r)) same
 
+-- What a call is refused with has no detail.
+pub no_detail : (asked : Call) (r : Refusal) → read_call asked ≡ Err r → refusal_detail r ≡ 0
+no_detail asked r e =
+    let (n, d, is, same) = read_refused (first_of (call_tests asked)) (unrolled asked) r e in
+    let (number, detail, none) = call_met asked n d is in
+    ap refusal_detail (sym same) ∙ detail ∙ none
+
 -- As code meets the tests: what it answers once they are walked is what the definition reads.
 pub call_refused : (asked : Call) (n : ℕ) → Gives (call_tests asked) (met n 0) → Err (call_refusal n) ≡ read_call asked
 call_refused asked n g = ap (λ (v : Verdict). read_as v (unrolled asked)) (sym (gives _ _ g))

@@ -23,3 +23,4 @@ pub mod Numbers
 pub mod Copies
 pub mod Writing
 pub mod Decimals
+pub mod NoSecond

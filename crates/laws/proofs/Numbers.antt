@@ -16,14 +16,14 @@ use Rattle.rules.specs.Order.{Verdict, clear, met, test, first_of, number_in}
 use Rattle.rules.specs.Basics.{number32}
 use Rattle.rules.specs.Job.{Call, unrolled}
 use Rattle.rules.specs.LoadList.{count_of, head_size, event_size, event_at, read_event}
-use Rattle.rules.specs.Refusals.{call_tests, bad_list, read_as, read_call, read_list, call_number, list_number, event_number}
+use Rattle.rules.specs.Refusals.{call_tests, bad_list, read_as, read_call, read_list, by_number, call_number, list_number, event_number}
 use Rattle.laws.proofs.Cases.{by_test, neither}
 use Rattle.laws.proofs.Jobs.{call_met}
 
-pub call_number_lem : (asked : Call) → call_number (read_call asked) ≡ number_in (first_of (call_tests asked))
+pub call_number_lem : (asked : Call) → call_number (by_number (read_call asked)) ≡ number_in (first_of (call_tests asked))
 call_number_lem asked = by_verdict (first_of (call_tests asked)) refl
   where
-    by_verdict : (v : Verdict) → first_of (call_tests asked) ≡ v → call_number (read_as v (unrolled asked)) ≡ number_in v
+    by_verdict : (v : Verdict) → first_of (call_tests asked) ≡ v → call_number (by_number (read_as v (unrolled asked))) ≡ number_in v
     by_verdict clear e = refl
     by_verdict (met n d) e = (call_met asked n d e).0
 

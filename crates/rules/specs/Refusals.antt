@@ -75,10 +75,14 @@ read_as (met number detail) size = Err (call_refusal number)
 abbrev pub read_call : Call → Result Unrolled Refusal
 read_call asked = read_as (first_of (call_tests asked)) (unrolled asked)
 
--- Document 01's number for what reading a call found.
-abbrev pub call_number : Result Unrolled Refusal → ℕ
+-- What reading a call found, with the number of its refusal in place of the refusal; and document 01's number for it.
+abbrev pub by_number : Result Unrolled Refusal → Result Unrolled ℕ
+by_number (Ok size) = Ok size
+by_number (Err refusal) = Err (refusal_number refusal)
+
+abbrev pub call_number : Result Unrolled ℕ → ℕ
 call_number (Ok size) = 0
-call_number (Err refusal) = refusal_number refusal
+call_number (Err number) = number
 
 -- ---- A load list: refusals 8 and 9
 

@@ -21,7 +21,7 @@ use Rattle.rules.specs.Display.{State, Run, Rule, going, refused, start, load_re
 use Rattle.rules.specs.Refusing.{refusal_number}
 use Rattle.rules.specs.Plans.{missing, ranks_from, greatest, rule_of}
 use Rattle.rules.specs.Refusals.{checked, checked_for_c, planned, due, follow, first_bad_tick, doubled, bad_limits, read_list}
-use Rattle.rules.specs.Refusals.{list_number, event_number, read_call, call_number}
+use Rattle.rules.specs.Refusals.{list_number, event_number, read_call, by_number, call_number}
 use Rattle.rules.specs.Refusals.{answer_of, ticks_of, slots_of, tick_bytes, written_by, lent}
 use Rattle.rules.specs.Why.{why, plain_reason}
 use Rattle.rules.specs.Text.{Writing, write_text, read_text, written_of, bytes_of}
@@ -206,7 +206,7 @@ answer_in r (slots_later job l t s) = lent (slots_of (checked (call job r) l (le
 answer_in r (ticks_for_c_later job l t s) = lent (tick_bytes (ticks_of (checked_for_c (call job r) l (length t) (length s)))) t
 answer_in r (plan_records job p) = records (job_of (call job r)) (rule_of (job_of (call job r)) p)
 answer_in r (check_records job l) = records (job_of (call job r)) (follow (events_of l))
-answer_in r (job_number job) = call_number (read_call (call job r)) ∷ job_found (read_call (call job r))
+answer_in r (job_number job) = call_number (by_number (read_call (call job r))) ∷ job_found (read_call (call job r))
 answer_in r (shape job) = shape_numbers (shape_of job)
 answer_in r (symbols_in job) = starting_symbols job ++ drawn_symbols job
 answer_in r (limits k f n) = truth (bad_limits (record { slots = k; load_time = f; draws = n }))
@@ -224,7 +224,7 @@ answer_in r (text_read t room) = writing_found (read_text t room)
 answer_in r (text_later l room) = lent (bytes_of (write_text l (length room))) room
 answer_in r (list_later t room) = lent (bytes_of (read_text t (length room))) room
 answer_in r (reason job l draw) = reason_numbers (plain_reason (why (call job r) l draw))
-answer_in r (rounds_number job) = call_number (read_call (call job r)) ∷ call_found (read_call (call job r))
+answer_in r (rounds_number job) = call_number (by_number (read_call (call job r))) ∷ call_found (read_call (call job r))
 answer_in r (draws_in_asked job) = draws_of (call job r)
 answer_in r (in_rounds_asked rounds question) = answer_in rounds question
 

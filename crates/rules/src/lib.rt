@@ -1,5 +1,5 @@
 // The words that the rules and the code share: what reading finds, what a tick brings, what a call answers.
-// Types and numbers only. What they mean is said in specs/, a file to each section of document 01.
+// Types and numbers, and the number and the detail of a refusal. What they mean is said in specs/, a file to each section of document 01.
 #![tactic(auto)]
 
 mod refusal;

@@ -118,12 +118,12 @@ pub fn starting_slots(job: &[u8], slots: u8) -> [u16; MOST_SLOTS as usize]
     row
 }
 
-// The number of the refusal that reading a call found; 0 where it was taken.
-pub fn call_number(reading: Result<Unrolled, Refusal>) -> u32
+// Document 01's number for what reading a call found, where its refusal is given by number; 0 where it was taken.
+pub fn call_number(reading: Result<Unrolled, u32>) -> u32
     ensures { result ≡ call_number reading }
 {
     match reading {
         Ok(_) => 0,
-        Err(refusal) => refusal.number(),
+        Err(number) => number,
     }
 }
