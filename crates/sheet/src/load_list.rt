@@ -9,8 +9,9 @@ ghost use Rattle.sheet.specs.Size.{Sized};
 ghost use Rattle.sheet.specs.Ticks.{in_order};
 
 use crate::list::read_list;
+use crate::ticks::first_bad_tick;
 use crate::walk::event_of;
-use rules::{Event, LAST_TICK, Refusal};
+use rules::{Event, Refusal};
 
 #[derive(Clone, Copy)]
 pub struct LoadList<'a> {
@@ -47,15 +48,9 @@ impl<'a> LoadList<'a> {
     pub fn check_ticks(self) -> Result<(), Refusal>
         ensures { result ≡ in_order self.entry.count self.entry.bytes.now }
     {
-        let mut least: u32 = 0;
-        for index in 0..self.count {
-            let tick = self.event(index).tick;
-            if LAST_TICK < tick || tick < least {
-                return Err(Refusal::EventTick {
-                    event: index as u32,
-                });
-            }
-            least = tick + 1;
+        let first = first_bad_tick(self.bytes, self.count);
+        if first < self.count as u32 {
+            return Err(Refusal::EventTick { event: first });
         }
         Ok(())
     }
