@@ -8,6 +8,7 @@ use lib.ListN.{get_or}
 use Rattle.std.specs.Prelude.{Option}
 use Rattle.rules.specs.declared.Load.{Load}
 use Rattle.rules.specs.declared.Happening.{Happening}
+use Rattle.rules.specs.declared.Cause.TheVariants.{Awaited, Another, Nothing}
 use Rattle.rules.specs.declared.Happening.TheVariants.{Draw, Wait}
 use Rattle.rules.specs.Basics.{place, stands}
 use Rattle.rules.specs.Display.{going, cause_of, happening_of, record_of, happened, stuck, moved}
@@ -40,6 +41,13 @@ moved_counts : (d : Display) (hp : Happening) → Counted 0 hp d (moved_on hp d)
 moved_counts d (Draw q) = record { tick = refl; next = refl; waits = omega arith; pause = omega arith; loads = omega arith }
 moved_counts d (Wait cause) = record { tick = refl; next = refl; waits = omega arith; pause = omega arith; loads = omega arith }
 
+-- What is stuck is a wait while nothing was loading.
+still_waiting : (hp : Happening) (done : Bool) → stuck hp done ≡ true → hp ≡ Wait Nothing
+still_waiting (Draw q) done e = let z : ◌≡◌ {A = ℕ} 0 1 = cc in absurd (omega arith)
+still_waiting (Wait Awaited) done e = let z : ◌≡◌ {A = ℕ} 0 1 = cc in absurd (omega arith)
+still_waiting (Wait Another) done e = let z : ◌≡◌ {A = ℕ} 0 1 = cc in absurd (omega arith)
+still_waiting (Wait Nothing) done e = refl
+
 module _ (slots : List ℕ) (d : Display) (asked : Option Load) (symbol : ℕ) (done : Bool) where
   abbrev here : Happening
   here = happening_of (view slots (awaiting symbol) d)
@@ -49,7 +57,13 @@ module _ (slots : List ℕ) (d : Display) (asked : Option Load) (symbol : ℕ) (
 
   refused_step : stuck here done ≡ true → DrawnOrWaited slots d asked symbol done (Err (EndlessWait d.next))
   unfolding happened
-  refused_step halts = record { recorded = tt; counts = tt; run = λ h e. rw (same_happening slots d h symbol e, halts) }
+  refused_step halts =
+      record {
+        recorded = tt;
+        unrecorded = ap (λ (x : Happening). record { begun = asked; happening = x }) (still_waiting here done halts);
+        counts = tt;
+        run = λ h e. rw (same_happening slots d h symbol e, halts);
+      }
 
   moved_step : stuck here done ≡ false
       → DrawnOrWaited slots d asked symbol done (Ok (record { on_record = on; display = moved_on here d }))
@@ -57,6 +71,7 @@ module _ (slots : List ℕ) (d : Display) (asked : Option Load) (symbol : ℕ) (
   moved_step goes =
       record {
         recorded = refl;
+        unrecorded = tt;
         counts = moved_counts d here;
         run = λ h e. rw (same_happening slots d h symbol e, goes) (ap going (moved_view slots d here h));
       }

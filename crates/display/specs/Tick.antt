@@ -1,8 +1,10 @@
 -- What a tick of the code answers, as the rules have it.
 use Rattle.std.specs.Prelude.{ℕ, ◌+◌, ◌≤◌, ◌<◌, ◌≡◌, Bool, false, cond, List, length, get_or, drop, eqb, Option, Some, None}
 use Rattle.std.specs.Prelude.{Result, Ok, Err, IfOk}
+use Rattle.std.specs.Result.{IfErr}
 use Rattle.rules.specs.declared.Load.{Load}
 use Rattle.rules.specs.declared.Happening.{Happening}
+use Rattle.rules.specs.declared.Cause.TheVariants.{Nothing}
 use Rattle.rules.specs.declared.Happening.TheVariants.{Draw, Wait}
 use Rattle.rules.specs.declared.TickRecord.{TickRecord}
 use Rattle.rules.specs.declared.refusal.Refusal.{Refusal}
@@ -87,9 +89,11 @@ pub record Counted (most : ℕ) (happening : Happening) (before later : Display)
   pub pause : later.pause ≤ before.pause + 1
   pub loads : later.loads ≤ before.loads + most
 
--- Step 3 from d, with the awaited symbol, whatever is beside the display.
+-- Step 3 from d, with the awaited symbol, whatever is beside the display. The tick of a wait that would never end has a record too: what was
+-- asked for, and a wait while nothing was loading.
 pub record DrawnOrWaited (slots : List ℕ) (d : Display) (asked : Option Load) (symbol : ℕ) (done : Bool) (r : Result Ticked Refusal) : Type 0 where
   pub recorded : IfOk r (λ t. t.on_record ≡ record_of asked (view slots (awaiting symbol) d))
+  pub unrecorded : IfErr r (λ e. record_of asked (view slots (awaiting symbol) d) ≡ record { begun = asked; happening = Wait Nothing })
   pub counts : IfOk r (λ t. Counted 0 t.on_record.happening d t.display)
   pub run : (h : History)
       → get_or h.rest 0 0 ≡ symbol
