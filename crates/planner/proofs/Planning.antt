@@ -7,7 +7,8 @@ use mathlib.Core.List.{List, [], ◌∷◌, map}
 use lib.ListN.{length, take, length-take}
 use lib.Dec.{ltb}
 use borrow.Author.Tests.{ltb-false, lt-ltb}
-use Rattle.std.specs.Prelude.{Result, Ok, Err}
+use Rattle.std.specs.Prelude.{Result, Ok, Err, MatchResult}
+use Rattle.std.specs.Result.{IsErrAnd}
 use Rattle.rules.specs.declared.refusal.Refusal.{Refusal}
 use Rattle.rules.specs.declared.Unrolled.{Unrolled}
 use Rattle.rules.specs.Order.{Test, test, Verdict, clear, met}
@@ -19,10 +20,10 @@ use Rattle.rules.specs.declared.Plan.TheVariants.{Aggressive, Conservative, Opt,
 use Rattle.rules.specs.Plans.{run_plan, begun_in, rule_of, last_plan}
 use Rattle.rules.specs.Plans.{plan_number}
 use Rattle.rules.specs.Refusing.{refusal_number, refusal_detail}
-use Rattle.rules.specs.Refusals.{read_call, short_plan, in_time, plan_tests, planned, event_of, written_by, lent}
+use Rattle.rules.specs.Refusals.{read_call, call_number, short_plan, in_time, plan_tests, planned, event_of, written_by, lent}
 use Rattle.laws.proofs.Verdicts.{Gives, gives, stop, step}
 use Rattle.laws.specs.Limits.{Limits}
-use Rattle.laws.proofs.Jobs.{limits, proper, same_call, refused_call}
+use Rattle.laws.proofs.Jobs.{limits, proper, same_call, refused_call, no_detail}
 use Rattle.plan_laws.proofs.Keeping.{Done}
 use Rattle.plan_laws.proofs.Plans.{Any, plan_done, planned_met, planned_past}
 use Rattle.display.specs.View.{History, view}
@@ -52,6 +53,16 @@ roomy job rounds reading shape room r is taken e fails =
       enough = ltb-false _ _ (sym e ∙ fails);
     }
 
+-- A reading told by the number of its refusal.
+abbrev pub ToldBy : Result Unrolled Refusal → Result Unrolled ℕ → Type 0
+ToldBy reading told = MatchResult reading (λ size. told ≡ Ok size) (λ e. IsErrAnd told (λ n. n ≡ refusal_number e))
+
+told_number : (reading : Result Unrolled Refusal) (told : Result Unrolled ℕ) (e : Refusal) → reading ≡ Err e → ToldBy reading told
+    → call_number told ≡ refusal_number e
+told_number (Ok size) told e stops tells = let z : ◌≡◌ {A = ℕ} 0 1 = cc in absurd (omega arith)
+told_number (Err e') (Ok size) e stops tells = absurd tells
+told_number (Err e') (Err n) e stops tells = let same : e' ≡ e = cc in tells ∙ ap refusal_number same
+
 module _ (asked : Call) (plan : ℕ) (room : List ℕ) where
   abbrev comes : Run
   comes = planned asked plan (length room)
@@ -68,6 +79,15 @@ module _ (asked : Call) (plan : ℕ) (room : List ℕ) where
   pub call_refuses : (reading : Result Unrolled Refusal) (e : Refusal) → reading ≡ read_call asked → reading ≡ Err e
       → (comes ≡ refused (refusal_number e) (refusal_detail e)) × (room ≡ lent (written_by comes) room)
   call_refuses reading e is stops = refuses e (refused_call asked reading e _ is stops)
+
+  -- It is answered by the number of its refusal.
+  pub call_answers : (reading : Result Unrolled Refusal) (told : Result Unrolled ℕ) (e : Refusal) → reading ≡ read_call asked → reading ≡ Err e
+      → ToldBy reading told → (refused (call_number told) 0 ≡ comes) × (room ≡ lent (written_by comes) room)
+  call_answers reading told e is stops tells =
+      let (comes_to, writes) = call_refuses reading e is stops in
+      let none : refusal_detail e ≡ 0 = no_detail asked e (sym is ∙ stops) in
+      let number : call_number told ≡ refusal_number e = told_number reading told e stops tells in
+      (ap (λ (n : ℕ). refused n 0) number ∙ ap (refused (refusal_number e)) (sym none) ∙ sym comes_to, writes)
 
   -- Past all tests it comes to the run of the plan.
   pub past_tests : (reading : Result Unrolled Refusal) (shape : Unrolled) → reading ≡ read_call asked → reading ≡ Ok shape

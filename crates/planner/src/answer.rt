@@ -1,15 +1,15 @@
 // A plan of a job: its refusals in their order, its run, and its list in the lent room.
-ghost use Rattle.std.specs.Prelude.{◌≡◌, ◌+◌, ◌*◌, length, ltb};
+ghost use Rattle.std.specs.Prelude.{◌≡◌, ◌+◌, ◌*◌, length, ltb, Ok};
 ghost use Rattle.rules.specs.Job.{call, most_draws};
 ghost use Rattle.rules.specs.LoadList.{head_size, event_size};
-ghost use Rattle.rules.specs.Refusals.{planned, answer_of, written_by, lent};
+ghost use Rattle.rules.specs.Refusals.{read_call, planned, answer_of, written_by, lent};
 ghost use Rattle.rules.specs.Plans.{plan_number};
 ghost use Rattle.planner.specs.Runs.{HasPlaces, Prepared, Ended, PlanOf, ComesTo};
 
 use crate::run::{TakenJob, run_plan};
 use crate::write::write_list;
 use choice::row_of;
-use display::{Display, accepted, refused};
+use display::{Display, accepted, refusal, refused};
 use rules::{Answer, MOST_DRAWS, Plan, Refusal, Unrolled};
 
 // The run of a plan from the start of the job.
@@ -74,13 +74,13 @@ fn short_room(draws: u16, room: usize) -> bool
     room < sheet::list_size(draws as u32)
 }
 
-// The display at the end of the run of a plan, with the run's list in the room; or the first refusal that is met. Nothing is written before
-// the last refusal is past.
-fn carry_out(job: &[u8], plan: u32, rounds: u32, room: &mut [u8]) -> Result<Display, Refusal>
-    ensures comes_to { ComesTo (planned (call job.now rounds) plan (length room.old)) result }
-    ensures writes { room.new ≡ lent (written_by (planned (call job.now rounds) plan (length room.old))) room.old }
+// The display at the end of the run of a plan of a job that was taken, with the run's list in the room; or the first refusal that is met.
+// Nothing is written before the last refusal is past.
+fn carry_out(job: &[u8], shape: Unrolled, plan: u32, room: &mut [u8]) -> Result<Display, Refusal>
+    requires { read_call (call job.now shape.rounds) ≡ Ok shape }
+    ensures comes_to { ComesTo (planned (call job.now shape.rounds) plan (length room.old)) result }
+    ensures writes { room.new ≡ lent (written_by (planned (call job.now shape.rounds) plan (length room.old))) room.old }
 {
-    let shape = sheet::read_call(job, rounds)?;
     let plan = plan_of(plan)?;
     if short_room(shape.draws, room.len()) {
         return Err(Refusal::ShortRoom);
@@ -96,7 +96,11 @@ pub fn plan(job: &[u8], plan: u32, rounds: u32, room: &mut [u8]) -> Answer
     ensures answers { result ≡ answer_of (planned (call job.now rounds) plan (length room.old)) }
     ensures writes { room.new ≡ lent (written_by (planned (call job.now rounds) plan (length room.old))) room.old }
 {
-    match carry_out(job, plan, rounds, room) {
+    let reading = sheet::read_call(job, rounds);
+    let Ok(shape) = reading else {
+        return refusal(sheet::call_number(reading.map_err(Refusal::number)), 0);
+    };
+    match carry_out(job, shape, plan, room) {
         Ok(d) => accepted(d),
         Err(reason) => refused(reason),
     }
