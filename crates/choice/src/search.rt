@@ -32,7 +32,9 @@ pub fn served(slots: &[u16], symbol: u16) -> bool
     slot_of(slots, symbol) < slots.len()
 }
 
-// The first of the draws that remain whose symbol is in no slot, if there is one.
+// The first of the draws that remain whose symbol is in no slot, if there is one. It is called and does not stand in line: in the run of a plan
+// too few registers would be left for its loop.
+#[inline(never)]
 pub fn missing(slots: &[u16], rest: &[u16]) -> Option<usize>
     ensures { Missed slots.now rest.now result }
 {
