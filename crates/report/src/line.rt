@@ -11,8 +11,9 @@ fn without_number(text: &str) -> &str {
 
 fn say_line<W: Write>(alloc: Global, to: &mut W, what: &[u8], error: &io::Error) -> io::Result<()> {
     to.write_all(what)?;
+    to.write_all(b": ")?;
     let text = format!(in alloc; "{error}")?;
-    writeln!(to, ": {}", without_number(text.as_str()))
+    writeln!(to, "{}", without_number(text.as_str()))
 }
 
 // The line for what could not be done, and why. Where not even that line can be written, there is nobody left to tell.

@@ -37,7 +37,8 @@ fn turn<T: FnOnce(&[u8], &mut [u8]) -> Written>(
     };
     let answer = turned(given, room);
     if let Some(refused) = Refused::of(answer.number, answer.detail) {
-        let _ = writeln!(err, "{refused}\n{}", InWords(refused));
+        let _ = writeln!(err, "{refused}");
+        let _ = writeln!(err, "{}", InWords(refused));
         return;
     }
     let end = room.len().min(answer.size as usize);
