@@ -1,6 +1,7 @@
 -- What a slot holds at a tick, said from the load list alone, with no run of the display, and what a sheet of draw ticks and slots must
 -- be by that. A reader who does not trust the display's ticks can trust a sheet by this file.
-use Rattle.std.specs.Prelude.{ℕ, zero, suc, ◌+◌, ◌-◌, ◌<◌, ◌≤◌, ◌≡◌, refl, cond, ◌&&◌, List, [], ◌∷◌, map, length, get_or, eqb, ltb, leb}
+use Rattle.std.specs.Prelude.{ℕ, zero, suc, ◌+◌, ◌-◌, ◌<◌, ◌≤◌, ◌≡◌, refl, cond, ◌&&◌, List, [], ◌∷◌, map}
+use Rattle.std.specs.Prelude.{length, get_or, eqb, ltb, leb}
 use Rattle.rules.specs.declared.Answer.{Answer}
 use Rattle.rules.specs.Job.{Job, free}
 use Rattle.rules.specs.declared.Event.{Event}

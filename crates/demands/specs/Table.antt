@@ -1,7 +1,8 @@
 -- The table of refusals in its words, row by row and in its order, for a plan and for a check: which number is given, and with which detail.
 -- To be held beside "Refusal numbers" of document 01; row 17 is from document 02, Five. Rows 1 to 9 speak of bytes; rows 10 to 14 speak of the
 -- display as it runs along the list.
-use Rattle.std.specs.Prelude.{ℕ, zero, suc, ◌+◌, ◌*◌, ◌-◌, ◌<◌, ◌≤◌, ◌≡◌, true, false, List, [], ◌∷◌, ◌++◌, ◌⊎◌, length, get_or, drop, Some}
+use Rattle.std.specs.Prelude.{ℕ, zero, suc, ◌+◌, ◌*◌, ◌-◌, ◌<◌, ◌≤◌, ◌≡◌, true, false, List, [], ◌∷◌, ◌++◌}
+use Rattle.std.specs.Prelude.{◌⊎◌, length, get_or, drop, Some}
 use Rattle.rules.specs.declared.Answer.{Answer}
 use Rattle.rules.specs.declared.Shape.{Shape}
 use Rattle.rules.specs.Basics.{stands, number32}

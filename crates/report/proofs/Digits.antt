@@ -1,5 +1,6 @@
 -- What std's reader of digits gives is what the bytes name one after the other.
-use Rattle.std.proofs.Common.{ℕ, ◌+◌, ◌*◌, ◌-◌, ◌^◌, ◌<◌, ◌≤◌, ◌≡◌, Bool, true, false, cond, leb, List, [], ◌∷◌, length, get_or}
+use Rattle.std.proofs.Common.{ℕ, ◌+◌, ◌*◌, ◌-◌, ◌^◌, ◌<◌, ◌≤◌, ◌≡◌, Bool, true, false, cond, leb, List, []}
+use Rattle.std.proofs.Common.{◌∷◌, length, get_or}
 use Rattle.std.proofs.Common.{Option, Some, None}
 use Rattle.std.proofs.Common.{Result, Ok, Err, inl, inr, sym, refl, ◌∙◌, rules, arith, leb-true, le-leb, leb-false, ne_eqb}
 use borrow.Author.Tests.{lt-leb}

@@ -1,7 +1,8 @@
 -- One tick of the display, and a run of ticks. (Document 01, "One tick of the display"; refusals 10 to 13 of "Refusal numbers"; the longest
 -- single wait: document 02, One)
 -- What is to begin in a tick is asked of a rule: a load list is one, and so is each plan. The display is the same for all.
-use Rattle.std.specs.Prelude.{ℕ, zero, suc, ◌+◌, ◌-◌, max, Bool, true, false, cond, not, ◌||◌, List, [], ◌∷◌, ◌++◌, get_or, drop, set, eqb, ltb}
+use Rattle.std.specs.Prelude.{ℕ, zero, suc, ◌+◌, ◌-◌, max, Bool, true, false, cond, not, ◌||◌, List, [], ◌∷◌, ◌++◌, get_or}
+use Rattle.std.specs.Prelude.{drop, set, eqb, ltb}
 use Rattle.std.specs.Prelude.{Option, Some, None}
 use Rattle.rules.specs.declared.Load.{Load}
 use Rattle.rules.specs.declared.Loading.{Loading}

@@ -1,6 +1,7 @@
 -- The four plans, each as a rule for what begins in a tick. (Document 01, "The four plans"; which symbol opt gives up of those never drawn
 -- again: document 02, Four)
-use Rattle.std.specs.Prelude.{ℕ, zero, suc, ◌+◌, max, true, cond, not, ◌&&◌, List, [], ◌∷◌, ◌++◌, reverse, length, get_or, take, drop, eqb, ltb, leb}
+use Rattle.std.specs.Prelude.{ℕ, zero, suc, ◌+◌, max, true, cond, not, ◌&&◌, List, [], ◌∷◌, ◌++◌, reverse, length, get_or, take}
+use Rattle.std.specs.Prelude.{drop, eqb, ltb, leb}
 use Rattle.std.specs.Prelude.{Option, Some, None}
 use Rattle.rules.specs.declared.Load.{Load}
 use Rattle.rules.specs.declared.Plan.{Plan}

@@ -1,6 +1,7 @@
 -- A load list as text that people can read, one event a line: what the writer makes of a list, and what the reader makes of any bytes.
 -- (Document 02, "Three. A load sheet people can read")
-use Rattle.std.specs.Prelude.{ℕ, zero, suc, ◌+◌, ◌*◌, ◌-◌, ◌/◌, ◌%◌, Bool, true, false, cond, not, ◌&&◌, ◌||◌, List, [], ◌∷◌, ◌++◌, length, get_or}
+use Rattle.std.specs.Prelude.{ℕ, zero, suc, ◌+◌, ◌*◌, ◌-◌, ◌/◌, ◌%◌, Bool, true, false, cond, not, ◌&&◌, ◌||◌, List}
+use Rattle.std.specs.Prelude.{[], ◌∷◌, ◌++◌, length, get_or}
 use Rattle.std.specs.Prelude.{drop, eqb, ltb, leb}
 use Rattle.rules.specs.declared.Written.{Written}
 use Rattle.rules.specs.Order.{Test, test, Verdict, clear, met, first_of}

@@ -1,7 +1,8 @@
 -- The worked sheets of document 01, computed with the definitions: rows a to h in one table with one theorem. What a row can ask is
 -- said here too, for the second table in Telling.antt. (Document 01, "Worked sheets")
 -- Questions and answers are bytes and numbers written out. No job, list or answer is made by a definition of the other files.
-use Rattle.std.specs.Prelude.{ℕ, zero, suc, ◌+◌, ◌*◌, ◌/◌, ◌%◌, ◌≡◌, refl, Bool, cond, List, [], ◌∷◌, ◌++◌, map, length, Option, Some, None, Result, Ok, Err}
+use Rattle.std.specs.Prelude.{ℕ, zero, suc, ◌+◌, ◌*◌, ◌/◌, ◌%◌, ◌≡◌, refl, Bool, cond, List, [], ◌∷◌, ◌++◌, map}
+use Rattle.std.specs.Prelude.{length, Option, Some, None, Result, Ok, Err}
 use Rattle.rules.specs.declared.refusal.Refusal.{Refusal}
 use Rattle.rules.specs.declared.Answer.{Answer}
 use Rattle.rules.specs.declared.PlainReason.{PlainReason}
