@@ -25,7 +25,7 @@ use Rattle.laws.proofs.Verdicts.{Each, met_by}
 use Rattle.display.specs.declared.state.Display.{Display}
 use Rattle.display.specs.declared.tick.Ticked.{Ticked}
 use Rattle.display.specs.View.{History, view, awaiting, history_begun, history_made, onward, Lands}
-use Rattle.display.specs.Tick.{DrawnOrWaited, Counted, Ticks, Recorded, OnRecord, refusal_of_load}
+use Rattle.display.specs.Tick.{Counted, Ticks, Recorded, OnRecord, refusal_of_load}
 use Rattle.display.specs.Tick.{refused_by, asked_refusal, gone_on, held_on, WentOn, leads, Missed}
 use Rattle.display.specs.Moves.{nearer, landed_in, begun_with, drawn_or_waited}
 use Rattle.display.proofs.Views.{lands_so, begins_so}
@@ -168,7 +168,11 @@ module _ (job : Job) (rule : Rule) (slots slots₁ : List ℕ) (d l : Display)
           ∙ ap (λ (x : Option Load). record_of x (begun_by job x (view slots₁ h l))) (asks h remain)
           ∙ ap (λ (s : State). record_of (rule.asks s) (begun_by job (rule.asks s) s)) (lands h)
 
-      module _ (r : Result Ticked Refusal) (settled : DrawnOrWaited slots₂ b asked symbol done r) where
+      -- Of step 3 these need what is on record, what the counters say and where it leads, and not the record of a wait that would never end.
+      module _ (r : Result Ticked Refusal) (recorded : IfOk r (λ t. t.on_record ≡ record_of asked (view slots₂ (awaiting symbol) b)))
+          (counts : IfOk r (λ t. Counted 0 t.on_record.happening b t.display))
+          (run : (h : History) → get_or h.rest 0 0 ≡ symbol
+          → leads slots₂ (λ t. history_made b t.happening h) r ≡ happened (happening_of (view slots₂ h b)) done (view slots₂ h b)) where
         went_onward : (r' : Result Ticked Refusal) → IfOk r' (λ t. t.on_record ≡ record_of asked (view slots₂ (awaiting symbol) b)) → (h : History)
             → IfOk r' (λ t. onward d t.on_record h ≡ history_made b t.on_record.happening (history_begun l asked h))
         went_onward (Ok t) recorded h = same_onward h t.on_record (ap (λ (x : TickRecord). x.begun) recorded)
@@ -192,13 +196,13 @@ module _ (job : Job) (rule : Rule) (slots slots₁ : List ℕ) (d l : Display)
         pub ticks_went : Ticks job rule slots slots₂ d r
         ticks_went =
             record {
-              counts = went_counts r settled.counts;
-              waits = went_missed r settled.recorded;
+              counts = went_counts r counts;
+              waits = went_missed r recorded;
               run = λ h remain.
                   let here : State = view slots₁ h l in
                   same_leads slots₂ (λ t. onward d t h) (λ t. history_made b t.happening (history_begun l asked h)) r
-                  (went_onward r settled.recorded h)
-                  ∙ settled.run (history_begun l asked h) (ap (λ (x : List ℕ). get_or x 0 0) (begun_rest l asked h ∙ remain) ∙ awaits)
+                  (went_onward r recorded h)
+                  ∙ run (history_begun l asked h) (ap (λ (x : List ℕ). get_or x 0 0) (begun_rest l asked h ∙ remain) ∙ awaits)
                   ∙ ap (λ (s : State). happened (happening_of s) done s) (begins h)
                   ∙ late_done job asked here done rule.done (ends h)
                   ∙ sym
@@ -208,7 +212,7 @@ module _ (job : Job) (rule : Rule) (slots slots₁ : List ℕ) (d l : Display)
             }
 
         pub ticks_recorded : OnRecord job rule slots slots₂ d r
-        ticks_recorded = record { ticks = ticks_went; recorded = went_recorded r settled.recorded }
+        ticks_recorded = record { ticks = ticks_went; recorded = went_recorded r recorded }
 
 -- ---- By what the code asks for
 
@@ -241,8 +245,9 @@ tick_so job rule slots slots₁ slots₂ d l time asked symbol done r is landed 
     by_refusal : (v : Result (Unit {0}) Refusal) → ((h : History) → asked_refusal job asked (view slots₁ h l) ≡ v)
         → r ≡ gone_on v time slots₁ l asked symbol done → slots₂ ≡ held_on v asked slots₁ → OnRecord job rule slots slots₂ d r
     by_refusal (Ok none) meets same held =
+        let settled = steps_so slots₂ b asked symbol done r (same ∙ ap (λ (k : List ℕ). drawn_or_waited k b asked symbol done) (sym held)) in
         ticks_recorded job rule slots slots₁ d l lands asked asks meets slots₂ b
         (λ h. begins_so time asked slots₁ slots₂ l b some refl held h job timed) symbol awaits done ends r
-        (steps_so slots₂ b asked symbol done r (same ∙ ap (λ (k : List ℕ). drawn_or_waited k b asked symbol done) (sym held)))
+        settled.recorded settled.counts settled.run
     by_refusal (Err e) meets same held =
         rw (same, held) (record { ticks = ticks_refused job rule slots slots₁ d l lands asked asks e meets; recorded = tt })
